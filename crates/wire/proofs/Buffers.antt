@@ -1,0 +1,93 @@
+-- Laws of what a buffer holds after bytes are written to it, for any buffer and any bytes. Assumes nothing.
+use mathlib.Core.Path.{_≡_, refl, sym, ap, _∙_}
+use mathlib.Core.Bool.{false}
+use mathlib.Core.List.{List, [], _∷_, _++_, append-nil}
+use Prim.Native.Nat.{ℕ, zero, suc, _+_, _-_, _≤_, _<_}
+use native.Mathlib.Nat.{add-assoc, add-zero, zero-add, add-suc, suc-add, le-of-eq}
+use native.Mathlib.Omega.{arith}
+use native.Mathlib.Numerals.{add-one}
+use borrow.Author.Tests.{lt-leb}
+use lib.ListN.{getD, length, take, drop, set, length-append, length-drop, drop-of-length-le}
+use lib.Seq.{drop-cons, length-sets, sets-eq, take-all, take-set-le, drop-set-lt}
+use Rattle.wire.specs.Buffer.{overwrite, fitsIn, Written, Overwritten}
+
+pub overwrite-length : (l : List ℕ) (at : ℕ) (xs : List ℕ) → length (overwrite l at xs) ≡ length l
+unfolding overwrite
+overwrite-length l at xs = length-sets l at xs
+
+pub overwrite-right : (l : List ℕ) (at : ℕ) (xs : List ℕ) → Overwritten l at xs
+unfolding overwrite
+overwrite-right l at xs = record { size = overwrite-length l at xs; parts = sets-eq xs l at }
+
+-- a mark past the end leaves room for nothing, not even for no byte
+pub past-the-end : (size mark need : ℕ) → size < mark → fitsIn size mark need ≡ false
+past-the-end size mark need h = lt-leb (mark + need) size (omega arith)
+
+-- nothing written changes nothing
+pub overwrite-none : (l : List ℕ) (at : ℕ) → overwrite l at [] ≡ l
+unfolding overwrite
+overwrite-none l at = refl
+
+-- bytes before and beyond stay, whether or not xs fit
+pub overwrite-before : (l : List ℕ) (at n : ℕ) (xs : List ℕ) → n ≤ at → take n (overwrite l at xs) ≡ take n l
+unfolding overwrite
+overwrite-before l at n [] h = refl
+overwrite-before l at n (x ∷ xs) h = overwrite-before (set l at x) (suc at) n xs (omega arith) ∙ take-set-le n l at x h
+
+pub overwrite-beyond : (l : List ℕ) (at n : ℕ) (xs : List ℕ) → at + length xs ≤ n → drop n (overwrite l at xs) ≡ drop n l
+unfolding overwrite
+overwrite-beyond l at n [] h = refl
+overwrite-beyond l at n (x ∷ xs) h = overwrite-beyond (set l at x) (suc at) n xs (omega arith) ∙ drop-set-lt n l at x (omega arith)
+
+-- WRITING TWICE IN A ROW is writing the joined bytes
+pub overwrite-append : (l : List ℕ) (at : ℕ) (xs ys : List ℕ) → overwrite (overwrite l at xs) (at + length xs) ys ≡ overwrite l at (xs ++ ys)
+unfolding overwrite
+overwrite-append l at [] ys = rw add-zero
+overwrite-append l at (x ∷ xs) ys = rw (add-suc, ← suc-add) (overwrite-append (set l at x) (suc at) xs ys)
+
+pub written-none : (l : List ℕ) (at : ℕ) → Written l at [] l at
+written-none l at = record { bytes = sym (overwrite-none l at); after = sym (add-zero at) }
+
+pub written-append : (l : List ℕ) (at : ℕ) (xs ys : List ℕ) {m n : List ℕ} {at′ at″ : ℕ} → Written l at xs m at′ → Written m at′ ys n at″ → Written l at (xs ++ ys) n at″
+written-append l at xs ys {m} v w = record {
+  bytes = w .bytes ∙ ap (λ (k : ℕ). overwrite m k ys) (v .after) ∙ ap (λ (r : List ℕ). overwrite r (at + length xs) ys) (v .bytes) ∙ overwrite-append l at xs ys;
+  after = w .after ∙ ap (λ (k : ℕ). k + length ys) (v .after) ∙ add-assoc at (length xs) (length ys) ∙ ap (λ (k : ℕ). at + k) (sym (length-append xs ys));
+}
+
+-- LENDING A PART from a place onward is writing at that place
+overwrite-cons : (x : ℕ) (l : List ℕ) (at : ℕ) (xs : List ℕ) → overwrite (x ∷ l) (suc at) xs ≡ x ∷ overwrite l at xs
+unfolding overwrite
+overwrite-cons x l at [] = refl
+overwrite-cons x l at (y ∷ xs) = overwrite-cons x (set l at y) (suc at) xs
+
+overwrite-nil : (at : ℕ) (xs : List ℕ) → overwrite [] at xs ≡ []
+unfolding overwrite
+overwrite-nil at [] = refl
+overwrite-nil at (x ∷ xs) = overwrite-nil (suc at) xs
+
+pub overwrite-part : (l : List ℕ) (mark at : ℕ) (xs : List ℕ) → take mark l ++ overwrite (drop mark l) at xs ≡ overwrite l (mark + at) xs
+overwrite-part l zero at xs = ap (λ (k : ℕ). overwrite l k xs) (sym (zero-add at))
+overwrite-part [] (suc mark) at xs = rw (overwrite-nil, overwrite-nil)
+overwrite-part (x ∷ l) (suc mark) at xs = rw (suc-add, overwrite-cons) (ap (λ (r : List ℕ). x ∷ r) (overwrite-part l mark at xs))
+
+-- `&mut l[mark..]` comes back with xs written at a place of it
+pub lent : (l : List ℕ) (mark at : ℕ) (ys xs : List ℕ) → ys ≡ overwrite (take (length l - mark) (drop mark l)) at xs
+    → take mark l ++ (ys ++ drop (length l - mark) (drop mark l)) ≡ overwrite l (mark + at) xs
+lent l mark at ys xs e =
+    ap (λ (r : List ℕ). take mark l ++ (ys ++ r)) (drop-of-length-le (drop mark l) (le-of-eq (length-drop mark l)))
+    ∙ ap (λ (r : List ℕ). take mark l ++ r) (append-nil ys ∙ e ∙ ap (λ (r : List ℕ). overwrite r at xs) (take-all (length l - mark) (drop mark l) (le-of-eq (length-drop mark l))))
+    ∙ overwrite-part l mark at xs
+
+-- one byte of a row: a turn of a loop that writes it
+pub put-turn : (l : List ℕ) (at : ℕ) (xs : List ℕ) (i : ℕ) → i < length xs → overwrite (set l (at + i) (getD xs i 0)) (at + (i + 1)) (drop (i + 1) xs) ≡ overwrite l (at + i) (drop i xs)
+unfolding overwrite
+put-turn l at xs i h =
+    let e : at + (i + 1) ≡ suc (at + i) = omega arith in
+    rw (e, add-one, drop-cons xs i 0 h)
+
+-- a loop that has written every byte of a row
+pub put-done : (l : List ℕ) (at : ℕ) (xs m : List ℕ) (i : ℕ) → i ≡ length xs → overwrite m (at + i) (drop i xs) ≡ overwrite l (at + 0) xs → Written l at xs m (at + i)
+put-done l at xs m i e q = record {
+  bytes = sym (overwrite-none m (at + i)) ∙ ap (overwrite m (at + i)) (sym (drop-of-length-le xs {i = i} (omega arith))) ∙ q ∙ ap (λ (k : ℕ). overwrite l k xs) (add-zero at);
+  after = ap (λ (k : ℕ). at + k) e;
+}
