@@ -4,9 +4,9 @@ use Prim.Native.Nat.{ℕ, zero, suc}
 use mathlib.Core.List.{List}
 use lib.ListN.{getD}
 
--- the sample at a place: a port's byte; 0 past the end, where the event is refused
-abbrev pub sampleAt : List ℕ → ℕ → ℕ
-sampleAt samples place = getD samples place 0
+-- the byte at a place: a port's sample; 0 past the end, where an event that uses it is refused
+abbrev pub byteAt : List ℕ → ℕ → ℕ
+byteAt bytes place = getD bytes place 0
 
 -- a line's level: 0 for low, 1 for high
 unfoldable pub levelOf : ℕ → ℕ
@@ -14,4 +14,4 @@ levelOf zero = 0
 levelOf (suc s) = 1
 
 abbrev pub levelAt : List ℕ → ℕ → ℕ
-levelAt samples place = levelOf (sampleAt samples place)
+levelAt samples place = levelOf (byteAt samples place)

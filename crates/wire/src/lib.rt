@@ -4,7 +4,7 @@ ghost use Prim.Native.Nat.{_+_, _≤_};
 ghost use lib.ListN.{length};
 ghost use Rattle.wire.specs.Action.{action, actionBytes};
 ghost use Rattle.wire.specs.Buffer.{Written, fitsIn};
-ghost use Rattle.wire.specs.Sample.{sampleAt, levelAt};
+ghost use Rattle.wire.specs.Sample.{byteAt, levelAt};
 
 // An action's verb.
 pub const VERB_RELEASE: u8 = 0;
@@ -97,12 +97,12 @@ pub fn fits(size: usize, mark: usize, need: usize) -> bool
     true
 }
 
-// The sample at a place, which is a port's byte as it stands; 0 past the end.
-pub fn sample_at(samples: &[u8], at: usize) -> u8
-    ensures { λ r. ⌜ r ≡ sampleAt (now (samples .entry)) at ⌝ }
+// The byte at a place of lent bytes, 0 past the end. A port's sample is this byte as it stands.
+pub fn byte_at(bytes: &[u8], at: usize) -> u8
+    ensures { λ r. ⌜ r ≡ byteAt (now (bytes .entry)) at ⌝ }
 {
-    if at < samples.len() {
-        return samples[at];
+    if at < bytes.len() {
+        return bytes[at];
     }
     0
 }
@@ -111,7 +111,7 @@ pub fn sample_at(samples: &[u8], at: usize) -> u8
 pub fn level_at(samples: &[u8], at: usize) -> u8
     ensures { λ r. ⌜ r ≡ levelAt (now (samples .entry)) at ⌝ }
 {
-    if sample_at(samples, at) == 0 {
+    if byte_at(samples, at) == 0 {
         return 0;
     }
     1

@@ -11,5 +11,5 @@ level-at-spec =
     tie.close
     (tie.spec
     (λ c κs. search needs)
-    (λ c. level-low _ (c .if1 .taken) ∙ ap levelOf (c .before .sample-at .ensures))
-    (λ c. level-high _ (c .if1 .left) ∙ ap levelOf (c .before .sample-at .ensures)))
+    (λ c. level-low _ (c .if1 .taken) ∙ ap levelOf (c .before .byte-at .ensures))
+    (λ c. level-high _ (c .if1 .left) ∙ ap levelOf (c .before .byte-at .ensures)))

@@ -1,0 +1,141 @@
+-- A register and its bits determine each other, at any width. Assumes nothing.
+use mathlib.Core.Path.{_≡_, refl, sym, ap, _∙_, subst}
+use mathlib.Core.List.{List, [], _∷_, _++_, append-assoc, reverse, reverse-cons}
+use Prim.Native.Nat.{ℕ, zero, suc, _+_, _-_, _*_, _/_, _%_, _<_}
+use native.Mathlib.Omega.{arith}
+use mir.Val.{Val}
+use mir.Syntax.{w8}
+use denote.Shadow.{shadow}
+use denote.Laws.{Is}
+use denote.Plain.{UInt}
+use denote.Array.{Array, each}
+use lib.ListN.{length, take, drop, length-drop, take-append-drop}
+use lib.Seq.{length-take-le}
+use Rattle.packet.specs.Register.{byteBits, bits, number, register, zeros}
+
+-- every element is 0 or 1
+abbrev pub Bits : List ℕ → Type 0
+Bits [] = Unit {0}
+Bits (b ∷ bs) = (b < 2) × Bits bs
+
+pub bits-join : (xs ys : List ℕ) → Bits xs → Bits ys → Bits (xs ++ ys)
+bits-join [] ys h k = k
+bits-join (x ∷ xs) ys h k = (h .0, bits-join xs ys (h .1) k)
+
+pub bits-drop : (n : ℕ) (xs : List ℕ) → Bits xs → Bits (drop n xs)
+bits-drop zero xs h = h
+bits-drop (suc n) [] h = tt
+bits-drop (suc n) (x ∷ xs) h = bits-drop n xs (h .1)
+
+bits-take : (n : ℕ) (xs : List ℕ) → Bits xs → Bits (take n xs)
+bits-take zero xs h = tt
+bits-take (suc n) [] h = tt
+bits-take (suc n) (x ∷ xs) h = (h .0, bits-take n xs (h .1))
+
+pub bits-zeros : (n : ℕ) → Bits (zeros n)
+bits-zeros zero = tt
+bits-zeros (suc n) = (omega arith, bits-zeros n)
+
+pub bits-reverse : (xs : List ℕ) → Bits xs → Bits (reverse xs)
+bits-reverse [] s = tt
+bits-reverse (x ∷ xs) s = rw reverse-cons (bits-join (reverse xs) (x ∷ []) (bits-reverse xs (s .1)) (s .0, tt))
+
+pub bits-small : (r : List ℕ) → Bits (bits r)
+unfolding bits byteBits
+bits-small [] = tt
+bits-small (b ∷ r) =
+    bits-join (byteBits b) (bits r)
+    (omega arith, (omega arith, (omega arith, (omega arith, (omega arith, (omega arith, (omega arith, (omega arith, tt))))))))
+    (bits-small r)
+
+pub bits-append : (l m : List ℕ) → bits (l ++ m) ≡ bits l ++ bits m
+unfolding bits
+bits-append [] m = refl
+bits-append (b ∷ l) m = rw (bits-append l m, append-assoc)
+
+pub length-byte : (b : ℕ) → length (byteBits b) ≡ 8
+unfolding byteBits
+length-byte b = refl
+
+pub length-bits : (l : List ℕ) → length (bits l) ≡ 8 * length l
+unfolding bits byteBits
+length-bits [] = refl
+length-bits (b ∷ l) = omega (arith, length-bits l)
+
+-- FROM A BYTE TO ITS BITS AND BACK
+
+n1 : (x : ℕ) → x < 256 → 0 * 2 + x / 128 % 2 ≡ x / 128
+n1 x h = omega arith
+
+n2 : (x : ℕ) → x / 128 * 2 + x / 64 % 2 ≡ x / 64
+n2 x = omega arith
+
+n3 : (x : ℕ) → x / 64 * 2 + x / 32 % 2 ≡ x / 32
+n3 x = omega arith
+
+n4 : (x : ℕ) → x / 32 * 2 + x / 16 % 2 ≡ x / 16
+n4 x = omega arith
+
+n5 : (x : ℕ) → x / 16 * 2 + x / 8 % 2 ≡ x / 8
+n5 x = omega arith
+
+n6 : (x : ℕ) → x / 8 * 2 + x / 4 % 2 ≡ x / 4
+n6 x = omega arith
+
+n7 : (x : ℕ) → x / 4 * 2 + x / 2 % 2 ≡ x / 2
+n7 x = omega arith
+
+n8 : (x : ℕ) → x / 2 * 2 + x % 2 ≡ x
+n8 x = omega arith
+
+number-bits : (x : ℕ) → x < 256 → number 0 (byteBits x) ≡ x
+unfolding byteBits number
+number-bits x h = rw (n1 x h, n2 x, n3 x, n4 x, n5 x, n6 x, n7 x, n8 x)
+
+-- a value of the type [u8; n] is the register of its own bits
+register-each : (xs : List ℕ) (us : List Val) → shadow (each ℕ (UInt w8 .own) xs us) → register (length xs) (bits xs) ≡ xs
+unfolding register bits byteBits
+register-each [] us s = refl
+register-each (x ∷ xs) [] s = absurd s
+register-each (x ∷ xs) (u ∷ us) s = cc (number-bits x (s .0 .1), register-each xs us (s .1))
+
+pub register-bits : (n : ℕ) (xs : List ℕ) (vs : List Val) → Is (Array (UInt w8) n) xs vs → register n (bits xs) ≡ xs
+register-bits n xs vs p = ap (λ (k : ℕ). register k (bits xs)) (sym (p .1 .0 .1)) ∙ register-each xs (p .0) (p .1 .1)
+
+bits-number : (bs : List ℕ) → length bs ≡ 8 → Bits bs → byteBits (number 0 bs) ≡ bs
+unfolding byteBits number
+bits-number [] l s = absurd (omega arith)
+bits-number (a ∷ []) l s = absurd (omega arith)
+bits-number (a ∷ b ∷ []) l s = absurd (omega arith)
+bits-number (a ∷ b ∷ c ∷ []) l s = absurd (omega arith)
+bits-number (a ∷ b ∷ c ∷ d ∷ []) l s = absurd (omega arith)
+bits-number (a ∷ b ∷ c ∷ d ∷ e ∷ []) l s = absurd (omega arith)
+bits-number (a ∷ b ∷ c ∷ d ∷ e ∷ f ∷ []) l s = absurd (omega arith)
+bits-number (a ∷ b ∷ c ∷ d ∷ e ∷ f ∷ g ∷ []) l s = absurd (omega arith)
+bits-number (a ∷ b ∷ c ∷ d ∷ e ∷ f ∷ g ∷ h ∷ []) l s =
+    let x = (((((((0 * 2 + a) * 2 + b) * 2 + c) * 2 + d) * 2 + e) * 2 + f) * 2 + g) * 2 + h in
+    let e7 : x / 128 % 2 ≡ a = omega arith in
+    let e6 : x / 64 % 2 ≡ b = omega arith in
+    let e5 : x / 32 % 2 ≡ c = omega arith in
+    let e4 : x / 16 % 2 ≡ d = omega arith in
+    let e3 : x / 8 % 2 ≡ e = omega arith in
+    let e2 : x / 4 % 2 ≡ f = omega arith in
+    let e1 : x / 2 % 2 ≡ g = omega arith in
+    let e0 : x % 2 ≡ h = omega arith in
+    cc
+bits-number (a ∷ b ∷ c ∷ d ∷ e ∷ f ∷ g ∷ h ∷ i ∷ bs) l s = absurd (omega arith)
+
+-- bits of the right number are the bits of their register
+pub bits-register : (k : ℕ) (bs : List ℕ) → length bs ≡ 8 * k → Bits bs → bits (register k bs) ≡ bs
+unfolding register bits
+bits-register zero [] l s = refl
+bits-register zero (b ∷ bs) l s = absurd (omega arith)
+bits-register (suc k) bs l s =
+    let t : length (take 8 bs) ≡ 8 = length-take-le 8 bs (omega arith) in
+    let d : length (drop 8 bs) ≡ 8 * k = omega (arith, length-drop 8 bs) in
+    rw (bits-number (take 8 bs) t (bits-take 8 bs s), bits-register k (drop 8 bs) d (bits-drop 8 bs s)) (take-append-drop 8 bs)
+
+pub length-register : (k : ℕ) (bs : List ℕ) → length (register k bs) ≡ k
+unfolding register
+length-register zero bs = refl
+length-register (suc k) bs = ap suc (length-register k (drop 8 bs))

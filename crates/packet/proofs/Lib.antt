@@ -1,0 +1,6 @@
+-- Laws that the proofs of this crate and of the crates above cite.
+pub mod Bytes
+pub mod Places
+pub mod Moves
+pub mod Loads
+pub mod Edges

@@ -1,0 +1,84 @@
+-- The bit at a place, and the order on the wire, at any width. Assumes nothing.
+use mathlib.Core.Path.{_≡_, refl, sym, ap, _∙_}
+use mathlib.Core.Bool.{Bool, true, false}
+use mathlib.Core.List.{List, [], _∷_, _++_, reverse, reverse-cons}
+use Prim.Native.Nat.{ℕ, zero, suc, _+_, _-_, _*_, _/_, _%_, _^_, _≤_, _<_}
+use native.Mathlib.Nat.{not-suc-le-zero}
+use native.Mathlib.Decide.{decLt}
+use native.Mathlib.Omega.{arith}
+use lib.ListN.{length, getD, length-reverse, List·getD-append, List·getD-eq-default}
+use lib.Seq.{getD-at, getD-append-add, getD-take, length-take-le}
+use Rattle.packet.specs.Register.{byteBits, bits}
+use Rattle.packet.specs.Packet.{order, sent, sentAt}
+use Rattle.packet.proofs.Bytes.{length-byte, length-bits}
+
+-- A BIT OF A REGISTER
+
+byte-at : (b j : ℕ) → j < 8 → getD (byteBits b) j 0 ≡ b / 2 ^ (7 - j) % 2
+unfolding byteBits
+byte-at b zero h = refl
+byte-at b (suc zero) h = refl
+byte-at b (suc (suc zero)) h = refl
+byte-at b (suc (suc (suc zero))) h = refl
+byte-at b (suc (suc (suc (suc zero)))) h = refl
+byte-at b (suc (suc (suc (suc (suc zero))))) h = refl
+byte-at b (suc (suc (suc (suc (suc (suc zero)))))) h = refl
+byte-at b (suc (suc (suc (suc (suc (suc (suc zero))))))) h = omega arith
+byte-at b (suc (suc (suc (suc (suc (suc (suc (suc j)))))))) h = absurd (omega arith)
+
+bits-at : (l : List ℕ) (q j : ℕ) → q < length l → j < 8 → getD (bits l) (8 * q + j) 0 ≡ getD l q 0 / 2 ^ (7 - j) % 2
+unfolding bits
+bits-at [] q j h hj = absurd (not-suc-le-zero h)
+bits-at (b ∷ l) zero j h hj =
+    let e : 8 * 0 + j ≡ j = omega arith in
+    rw e (List·getD-append (byteBits b) (bits l) 0 j (omega (arith, length-byte b)) ∙ byte-at b j hj)
+bits-at (b ∷ l) (suc q) j h hj =
+    let e : 8 * suc q + j ≡ length (byteBits b) + (8 * q + j) = omega (arith, length-byte b) in
+    rw e (getD-append-add (byteBits b) (bits l) (8 * q + j) 0 ∙ bits-at l q j (omega arith) hj)
+
+pub bit-place : (l : List ℕ) (p : ℕ) → p < 8 * length l → getD l (p / 8) 0 / 2 ^ (7 - p % 8) % 2 ≡ getD (bits l) p 0
+bit-place l p h =
+    let e : 8 * (p / 8) + p % 8 ≡ p = omega arith in
+    sym (bits-at l (p / 8) (p % 8) (omega arith) (omega arith)) ∙ ap (λ (n : ℕ). getD (bits l) n 0) e
+
+-- FROM BEHIND
+
+pub getD-reverse : (l : List ℕ) (i : ℕ) → i < length l → getD (reverse l) i 0 ≡ getD l (length l - 1 - i) 0
+getD-reverse [] i h = absurd (not-suc-le-zero h)
+getD-reverse (x ∷ l) i h = rw reverse-cons (go (decLt i (length l)) (getD-reverse l i))
+  where
+    go : Dec (i < length l) → (i < length l → getD (reverse l) i 0 ≡ getD l (length l - 1 - i) 0) → getD (reverse l ++ (x ∷ [])) i 0 ≡ getD (x ∷ l) (suc (length l) - 1 - i) 0
+    go (yes k) ih =
+        let e : suc (length l) - 1 - i ≡ suc (length l - 1 - i) = omega arith in
+        List·getD-append (reverse l) (x ∷ []) 0 i (omega (arith, length-reverse l)) ∙ ih k ∙ rw e
+    go (no k) ih =
+        let e : suc (length l) - 1 - i ≡ 0 = omega arith in
+        getD-at (reverse l) x [] 0 i (omega (arith, length-reverse l)) ∙ rw e
+
+-- THE ORDER ON THE WIRE
+
+pub length-order : (high : Bool) (bs : List ℕ) → length (order high bs) ≡ length bs
+unfolding order
+length-order true bs = refl
+length-order false bs = length-reverse bs
+
+pub order-high : (bs : List ℕ) (i : ℕ) → getD bs i 0 ≡ getD (order true bs) i 0
+unfolding order
+order-high bs i = refl
+
+pub order-low : (w : ℕ) (bs : List ℕ) (i : ℕ) → length bs ≡ w → i < w → getD bs (w - 1 - i) 0 ≡ getD (order false bs) i 0
+unfolding order
+order-low w bs i e h = rw (← e) (sym (getD-reverse bs i (omega arith)))
+
+-- past the register's bits there is none
+pub order-past : (high : Bool) (r : List ℕ) (i : ℕ) → 8 * length r ≤ i → 0 ≡ getD (order high (bits r)) i 0
+order-past high r i h = sym (List·getD-eq-default (order high (bits r)) 0 {n = i} (omega (arith, length-order high (bits r), length-bits r)))
+
+-- THE BITS SENT
+
+pub length-sent : (n : ℕ) (high : Bool) (r : List ℕ) → n ≤ 8 * length r → length (sent n high r) ≡ n
+length-sent n high r h = length-take-le n (order high (bits r)) (omega (arith, length-order high (bits r), length-bits r))
+
+-- the bit sent at a step is the one at that place of all that are sent
+pub sent-at : (n : ℕ) (high : Bool) (r : List ℕ) (i : ℕ) → i < n → getD (sent n high r) i 0 ≡ sentAt high r i
+sent-at n high r i h = getD-take n (order high (bits r)) i 0 h

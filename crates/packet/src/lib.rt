@@ -1,0 +1,183 @@
+// The packet register: an array of bytes by value, REG0 highest. In 01's words n is N, the size in bits, and high is bit 2
+// of CONFIG_SPI.
+ghost use mathlib.Core.Path.{_≡_};
+ghost use mathlib.Core.Bool.{true};
+ghost use Prim.Native.Nat.{_+_, _-_, _<_, _≤_, min};
+ghost use mathlib.Core.List.{[], _∷_, _++_};
+ghost use lib.ListN.{drop, getD, length};
+ghost use Rattle.packet.specs.Register.{bits};
+ghost use Rattle.packet.specs.Packet.{width, registerBytes, sizeRegister, sizeOf, packetBytes, fromHeld, cleared, aligned, loaded, sentAt, takenIn, lowBytes};
+ghost use Rattle.wire.specs.Buffer.{Written};
+
+// The register's size in bits: the one place of this number in the code.
+pub const WIDTH: u8 = 64;
+
+// The register's size in bytes.
+pub const BYTES: usize = WIDTH as usize / 8;
+
+pub type Register = [u8; BYTES];
+
+// The size register that a size operand gives.
+pub fn size_register(operand: u8) -> u8
+    ensures { λ r. ⌜ r ≡ sizeRegister width operand ⌝ }
+{
+    let w = WIDTH as u16;
+    ((operand as u16 + (w - 1)) % w) as u8
+}
+
+// The size in bits that a size operand gives.
+pub fn size_of(operand: u8) -> u8
+    ensures { λ r. ⌜ r ≡ sizeOf width operand ⌝ }
+{
+    size_register(operand) + 1
+}
+
+// How many bytes a packet of n bits takes.
+pub fn bytes_for(n: u8) -> u8
+    ensures { λ r. ⌜ r ≡ packetBytes n ⌝ }
+{
+    ((n as u16 + 7) / 8) as u8
+}
+
+// How many of the register's bits stand above the low n.
+fn spare(n: u8) -> u8
+    ensures { λ r. ⌜ r ≡ width - n ⌝ }
+{
+    if n < WIDTH {
+        return WIDTH - n;
+    }
+    0
+}
+
+// The register whose lowest byte is the first one held, and so on upward; 0 where none is held.
+pub fn load(held: &[u8]) -> Register
+    ensures { λ q. ⌜ q ≡ fromHeld registerBytes (now (held .entry)) ⌝ }
+{
+    let mut q = [0u8; BYTES];
+    let mut i: usize = 0;
+    while i < BYTES {
+        let b = wire::byte_at(held, BYTES - 1 - i);
+        q[i] = b;
+        i += 1;
+    }
+    q
+}
+
+// The register moved up by one place, with a bit coming in at the lowest.
+fn move_up(r: Register, bit: u8) -> Register
+    requires { ⌜ bit < 2 ⌝ }
+    ensures { λ q. ⌜ bits q ≡ drop 1 (bits r ++ (bit ∷ [])) ⌝ }
+{
+    let mut q = r;
+    let mut i: usize = BYTES;
+    let mut carry = bit;
+    while 0 < i {
+        i -= 1;
+        let b = q[i];
+        q[i] = b % 128 * 2 + carry;
+        carry = b / 128 % 2;
+    }
+    q
+}
+
+// The register with a received bit taken in at its lowest place, the others moved up.
+// The caller shows that the bit is 0 or 1.
+pub fn take_in(r: Register, bit: u8) -> Register
+    requires { ⌜ bit < 2 ⌝ }
+    ensures { λ q. ⌜ q ≡ takenIn registerBytes bit r ⌝ }
+{
+    move_up(r, bit)
+}
+
+// The bit at a place counted from the highest.
+fn bit_at(r: Register, place: u8) -> u8
+    requires { ⌜ place < width ⌝ }
+    ensures { λ b. ⌜ (b ≡ getD (bits r) place 0) × (b < 2) ⌝ }
+{
+    let i = (place / 8) as usize;
+    let b = r[i];
+    (b >> (7 - place % 8)) % 2
+}
+
+// The low n bits kept, the rest zero.
+pub fn clear(r: Register, n: u8) -> Register
+    ensures { λ q. ⌜ q ≡ cleared width n r ⌝ }
+{
+    let mut q = [0u8; BYTES];
+    let mut place = spare(n);
+    while place < WIDTH {
+        let bit = bit_at(r, place);
+        let t = take_in(q, bit);
+        q = t;
+        place += 1;
+    }
+    q
+}
+
+// The register moved up, one place at a time, until its low n bits stand highest.
+fn raise(r: Register, n: u8) -> Register
+    ensures { λ q. ⌜ q ≡ aligned width n true r ⌝ }
+{
+    let mut q = r;
+    let mut left = spare(n);
+    while 0 < left {
+        left -= 1;
+        let t = take_in(q, 0);
+        q = t;
+    }
+    q
+}
+
+// The low n bits where the exchange wants them: moved up to the highest places if high, else where they are.
+pub fn align(r: Register, n: u8, high: bool) -> Register
+    ensures { λ q. ⌜ q ≡ aligned width n high r ⌝ }
+{
+    if high {
+        return raise(r, n);
+    }
+    r
+}
+
+// What the register holds after a load of the bytes held.
+pub fn load_packet(held: &[u8], n: u8, high: bool) -> Register
+    ensures { λ q. ⌜ q ≡ loaded width n high (now (held .entry)) ⌝ }
+{
+    let whole = load(held);
+    let low = clear(whole, n);
+    align(low, n, high)
+}
+
+// The bit that is sent at a step counted from 0; 0 past the register's bits.
+pub fn bit_to_send(r: Register, step: u8, high: bool) -> u8
+    ensures { λ b. ⌜ (b ≡ sentAt high r step) × (b < 2) ⌝ }
+{
+    if WIDTH <= step {
+        return 0;
+    }
+    if high {
+        return bit_at(r, step);
+    }
+    bit_at(r, WIDTH - 1 - step)
+}
+
+// How many low bytes of the register hold n bits.
+fn low_count(n: u8) -> usize
+    ensures { λ r. ⌜ r ≡ min (packetBytes n) registerBytes ⌝ }
+{
+    let count = bytes_for(n) as usize;
+    if BYTES < count {
+        return BYTES;
+    }
+    count
+}
+
+// Writes the register's low bytes that hold n bits, lowest first, at a place of the unused part of a lent buffer, and
+// answers the place after them. The caller shows that they fit there.
+pub fn put_low(out: &mut [u8], at: usize, r: Register, n: u8) -> usize
+    requires { ⌜ at + length (lowBytes n r) ≤ length (now out) ⌝ }
+    ensures { λ next. ⌜ Written (now (out .entry)) at (lowBytes n r) (now (out .exit)) next ⌝ }
+{
+    let low = load(&r);
+    let count = low_count(n);
+    wire::put_bytes(out, at, &low[..count])
+}
