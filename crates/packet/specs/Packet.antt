@@ -1,7 +1,7 @@
 -- The packet register (01, "SPI"): "The packet register is eight bytes, REG0 highest, taken and given whole." w is its
 -- width in bits, n is 01's N, and high is bit 2 of CONFIG_SPI.
 use Prim.Native.Nat.{ℕ, zero, suc, _+_, _-_, _/_, _%_}
-use mathlib.Core.Bool.{Bool, true, false}
+use mathlib.Core.Bool.{Bool, cond}
 use mathlib.Core.List.{List, [], _∷_, _++_, reverse}
 use lib.ListN.{getD, take, drop, length}
 use Rattle.packet.specs.Register.{bits, register, zeros}
@@ -28,10 +28,6 @@ sizeOf w operand = sizeRegister w operand + 1
 abbrev pub packetBytes : ℕ → ℕ
 packetBytes n = (n + 7) / 8
 
-abbrev pub pick : {A : Type 0} → Bool → A → A → A
-pick true a b = a
-pick false a b = b
-
 -- LOADING (44): "ceil(N/8) bytes, lowest first; the low N bits are kept, the rest zero; with bit 2 of CONFIG_SPI they move
 -- up by 64 − N"
 
@@ -52,7 +48,7 @@ abbrev pub cleared : ℕ → ℕ → List ℕ → List ℕ
 cleared w n r = register (w / 8) (kept w n (bits r))
 
 abbrev pub aligned : ℕ → ℕ → Bool → List ℕ → List ℕ
-aligned w n high r = pick high (register (w / 8) (movedUp (w - n) (bits r))) r
+aligned w n high r = cond high (register (w / 8) (movedUp (w - n) (bits r))) r
 
 abbrev pub loaded : ℕ → ℕ → Bool → List ℕ → List ℕ
 loaded w n high held = aligned w n high (cleared w n (fromHeld (w / 8) held))
@@ -61,7 +57,7 @@ loaded w n high held = aligned w n high (cleared w n (fromHeld (w / 8) held))
 
 -- the order on the wire: "from bit 63 down with bit 2 set, else from bit 0 up"
 unfoldable pub order : Bool → List ℕ → List ℕ
-order high bs = pick high bs (reverse bs)
+order high bs = cond high bs (reverse bs)
 
 -- the n bits that are sent, in order, and the one at a step
 abbrev pub sent : ℕ → Bool → List ℕ → List ℕ

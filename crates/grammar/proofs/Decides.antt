@@ -1,0 +1,140 @@
+-- The scanner decides the grammar: it goes through exactly what can be continued, ends between items exactly after orderly
+-- bytes, and stops at the first wrong place. Assumes nothing.
+use Prim.Native.Nat.{ℕ, zero, suc, _<_, _≤_}
+use mathlib.Core.Path.{_≡_, refl, sym, _∙_, ap, subst}
+use mathlib.Core.Bool.{Bool, true, false, cond}
+use mathlib.Core.List.{List, [], _∷_, _++_}
+use native.Mathlib.Omega.{arith}
+use lib.ListN.{length, take}
+use Rattle.grammar.specs.Grammar.{SPI, Context, Needs, Common, Selected, Configured, Command, selected, legal, count, Orderly, Continuable}
+use Rattle.grammar.specs.Scanner.{Place, Between, Extended, Inside, Scanner, Scanned, Accepted, Rejected, Opening, Unknown, Known, Extension, openingOf, extensionOf, codeFor, between, going, opened, scanAt, scan, Course, through, rejectedAt, later, resume, scanAll}
+use Rattle.grammar.specs.Verdict.{FirstWrong, rejecting, Decided}
+use Rattle.grammar.proofs.Walks.{Walk, stay, move, orderly-walk, continuable-walk}
+
+-- COURSES AND WALKS
+
+walk-course : {g h : Scanner} {bs : List ℕ} → Walk g bs h → scanAll g bs ≡ through h
+walk-course stay = refl
+walk-course (move {bs = bs} e w) = ap (λ (s : Scanned). resume s (λ (g : Scanner). scanAll g bs)) e ∙ ap later (walk-course w)
+
+later-through : (o : Course) {h : Scanner} → later o ≡ through h → o ≡ through h
+later-through (through g) e = e
+later-through (rejectedAt k w) e = let z : _≡_ {A = ℕ} 0 1 = cc in absurd (omega arith)
+
+course-walk : (g : Scanner) (bs : List ℕ) {h : Scanner} → scanAll g bs ≡ through h → Walk g bs h
+course-walk g [] {h} e = let q : g ≡ h = cc in subst (λ (i : Scanner). Walk g [] i) q stay
+course-walk g (b ∷ bs) {h} e = go (scan g b) refl e (λ i. course-walk i bs)
+  where
+    go : (s : Scanned) → scan g b ≡ s → resume s (λ (i : Scanner). scanAll i bs) ≡ through h → ((i : Scanner) → scanAll i bs ≡ through h → Walk i bs h) → Walk g (b ∷ bs) h
+    go (Accepted i) q p r = move q (r i (later-through (scanAll i bs) p))
+    go (Rejected w) q p r = let z : _≡_ {A = ℕ} 0 1 = cc in absurd (omega arith)
+
+-- THE FIRST PLACE THAT THE SCANNER DOES NOT PASS
+
+abbrev Passes : Scanner → List ℕ → Type 0
+Passes g bs = (h : Scanner) × Walk g bs h
+
+abbrev FirstStop : Scanner → List ℕ → ℕ → Type 0
+FirstStop g bs k = (k < length bs) × Passes g (take k bs) × ¬ Passes g (take (suc k) bs)
+
+first-move : {g : Scanner} {b : ℕ} {bs : List ℕ} → Passes g (b ∷ bs) → (h : Scanner) × (scan g b ≡ Accepted h) × Passes h bs
+first-move {g} {b} {bs} (i, w) = go w
+  where
+    go : {i : Scanner} → Walk g (b ∷ bs) i → (h : Scanner) × (scan g b ≡ Accepted h) × Passes h bs
+    go {i} (move {h = h} e w) = (h, e, (i, w))
+
+stop-rejected : (g : Scanner) (bs : List ℕ) (k : ℕ) → FirstStop g bs k → (w : ℕ) × (scanAll g bs ≡ rejectedAt k w)
+stop-rejected g [] k f = absurd (omega (arith, f .0))
+stop-rejected g (b ∷ bs) zero f = go (scan g b) refl
+  where
+    go : (s : Scanned) → scan g b ≡ s → (w : ℕ) × (resume s (λ (i : Scanner). scanAll i bs) ≡ rejectedAt zero w)
+    go (Accepted h) q = absurd (f .2 (h, move q stay))
+    go (Rejected w) q = (w, refl)
+stop-rejected g (b ∷ bs) (suc k) f =
+    let m = first-move (f .1) in
+    let r = stop-rejected (m .0) bs k (omega (arith, f .0), m .2, λ t. f .2 (t .0, move (m .1) (t .1))) in
+    (r .0, ap (λ (s : Scanned). resume s (λ (i : Scanner). scanAll i bs)) (m .1) ∙ ap later (r .1))
+
+rejected-stop : (g : Scanner) (bs : List ℕ) (k w : ℕ) → scanAll g bs ≡ rejectedAt k w → FirstStop g bs k
+rejected-stop g [] k w e = let z : _≡_ {A = ℕ} 0 1 = cc in absurd (omega arith)
+rejected-stop g (b ∷ bs) k w e = go (scan g b) refl e (λ h k′. rejected-stop h bs k′ w)
+  where
+    inner : (h : Scanner) → scan g b ≡ Accepted h → (o : Course) → scanAll h bs ≡ o → later o ≡ rejectedAt k w → ((k′ : ℕ) → scanAll h bs ≡ rejectedAt k′ w → FirstStop h bs k′) → FirstStop g (b ∷ bs) k
+    inner h q (through i) p l r = let z : _≡_ {A = ℕ} 0 1 = cc in absurd (omega arith)
+    inner h q (rejectedAt k′ w′) p l r =
+        let kk : suc k′ ≡ k = cc in
+        let ww : w′ ≡ w = cc in
+        let f = r k′ (p ∙ ap (rejectedAt k′) ww) in
+        subst (FirstStop g (b ∷ bs)) kk
+        (omega (arith, f .0), (f .1 .0, move q (f .1 .1)), λ t. let m = first-move t in f .2 (subst (λ (i : Scanner). Passes i (take (suc k′) bs)) (let s : m .0 ≡ h = cc (m .1, q) in s) (m .2)))
+
+    go : (s : Scanned) → scan g b ≡ s → resume s (λ (i : Scanner). scanAll i bs) ≡ rejectedAt k w → ((h : Scanner) (k′ : ℕ) → scanAll h bs ≡ rejectedAt k′ w → FirstStop h bs k′) → FirstStop g (b ∷ bs) k
+    go (Accepted h) q p r = inner h q (scanAll h bs) refl p (r h)
+    go (Rejected v) q p r =
+        let kk : 0 ≡ k = cc in
+        subst (FirstStop g (b ∷ bs)) kk
+        (omega arith, (g, stay), λ t. let m = first-move t in let z : _≡_ {A = ℕ} 0 1 = cc (m .1, q) in omega arith)
+
+-- A REJECTED BYTE'S CODE IS 80 OR 40
+
+abbrev Rejecting : Scanned → Type 0
+Rejecting (Accepted g) = Unit {0}
+Rejecting (Rejected w) = rejecting w ≡ true
+
+code-rejecting : (n : Needs) (c : Context) → rejecting (codeFor n c) ≡ true
+code-rejecting Common c = refl
+code-rejecting (Selected i) c = refl
+code-rejecting Configured c = go (selected SPI c)
+  where
+    go : (t : Bool) → rejecting (cond t 0x40 0x80) ≡ true
+    go true = refl
+    go false = refl
+
+opened-rejecting : (o : Opening) (c : Context) (b : ℕ) → Rejecting (opened o c b)
+opened-rejecting Unknown c b = refl
+opened-rejecting (Known k) c b = go (legal (k .needs) c)
+  where
+    go : (t : Bool) → Rejecting (cond t (Accepted (going (k .effect) (count (k .operands) c) b c)) (Rejected (codeFor (k .needs) c)))
+    go true = tt
+    go false = code-rejecting (k .needs) c
+opened-rejecting Extension c b = tt
+
+scan-rejecting : (p : Place) (c : Context) (b : ℕ) → Rejecting (scanAt p c b)
+scan-rejecting Between c b = opened-rejecting (openingOf b) c b
+scan-rejecting Extended c b = opened-rejecting (extensionOf b) c b
+scan-rejecting (Inside e n) c b = tt
+
+pub reject-code : (g : Scanner) (b w : ℕ) → scan g b ≡ Rejected w → rejecting w ≡ true
+reject-code g b w e = subst Rejecting e (scan-rejecting (g .place) (g .context) b)
+
+course-code : (g : Scanner) (bs : List ℕ) (k w : ℕ) → scanAll g bs ≡ rejectedAt k w → rejecting w ≡ true
+course-code g [] k w e = let z : _≡_ {A = ℕ} 0 1 = cc in absurd (omega arith)
+course-code g (b ∷ bs) k w e = go (scan g b) refl e (λ h j. course-code h bs j w)
+  where
+    inner : (o : Course) → later o ≡ rejectedAt k w → ((j : ℕ) → o ≡ rejectedAt j w → rejecting w ≡ true) → rejecting w ≡ true
+    inner (through i) p r = let z : _≡_ {A = ℕ} 0 1 = cc in absurd (omega arith)
+    inner (rejectedAt j v) p r = r j (let q : v ≡ w = cc in ap (rejectedAt j) q)
+
+    go : (s : Scanned) → scan g b ≡ s → resume s (λ (i : Scanner). scanAll i bs) ≡ rejectedAt k w → ((h : Scanner) (j : ℕ) → scanAll h bs ≡ rejectedAt j w → rejecting w ≡ true) → rejecting w ≡ true
+    go (Accepted h) q p r = inner (scanAll h bs) p (r h)
+    go (Rejected v) q p r = let vv : v ≡ w = cc in subst (λ (x : ℕ). rejecting x ≡ true) vv (reject-code g b v q)
+
+-- THE THEOREM
+
+pub decides : (c : Context) (bs : List ℕ) → Decided c bs
+decides c bs = record {
+  orderly = (
+    λ o. let w = orderly-walk c bs .0 o in (w .0, walk-course (w .1)),
+    λ t. orderly-walk c bs .1 (t .0, course-walk (between c) bs (t .1)),
+  );
+  continuable = (
+    λ o. let w = continuable-walk c bs .0 o in (w .0, walk-course (w .1)),
+    λ t. continuable-walk c bs .1 (t .0, course-walk (between c) bs (t .1)),
+  );
+  wrong = λ k. (
+    λ f. stop-rejected (between c) bs k (f .0, continuable-walk c (take k bs) .0 (f .1), λ t. f .2 (continuable-walk c (take (suc k) bs) .1 t)),
+    λ r. let f = rejected-stop (between c) bs k (r .0) (r .1) in
+        (f .0, continuable-walk c (take k bs) .1 (f .1), λ t. f .2 (continuable-walk c (take (suc k) bs) .0 t)),
+  );
+  code = course-code (between c) bs;
+}

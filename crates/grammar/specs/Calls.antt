@@ -1,0 +1,96 @@
+-- Demand 3: what a list of calls, each of which hands over one byte, has to do with the grammar. Stated of any machine.
+use Prim.Native.Nat.{ℕ, _<_}
+use mathlib.Core.Path.{_≡_}
+use mathlib.Core.Bool.{Bool, true, false, cond, _||_}
+use mathlib.Core.List.{List, [], _∷_, map}
+use mathlib.Core.Logic.{_↔_}
+use lib.ListN.{getD}
+use Rattle.grammar.specs.Grammar.{Context, Division, Orderly, Continuable}
+use Rattle.grammar.specs.Scanner.{Between, Scanner, Scanned, Accepted, Rejected, scan}
+use Rattle.grammar.specs.Verdict.{FirstWrong, rejecting}
+
+-- a machine that takes a byte and what is lent to it, and answers
+pub record Machine : Type 1 where
+  pub State : Type 0
+  pub Lent : Type 0
+  -- the state breaks no range
+  pub Good : State → Type 0
+  -- the state waits for nothing
+  pub Idle : State → Type 0
+  -- the grammar's context of a state
+  pub context : State → Context
+  -- the call is refused
+  pub refuses : State → ℕ → Lent → Bool
+  -- the codes that a call not refused returns
+  pub codes : State → ℕ → Lent → List ℕ
+  -- the state that the call returns
+  pub next : State → ℕ → Lent → State
+
+-- THE LIST OF CALLS: the state goes on from call to call as it was returned
+
+module _ (M : Machine) where
+  pub record Call : Type 0 where
+    pub byte : ℕ
+    pub fits : byte < 256
+    pub lent : M .Lent
+
+  -- the byte of a call not refused, and the codes that it returned
+  pub record Taken : Type 0 where
+    pub byte : ℕ
+    pub codes : List ℕ
+
+  abbrev pub answered : M .State → Call → M .State
+  answered s k = M .next s (k .byte) (k .lent)
+
+  abbrev pub taken : M .State → List Call → List Taken
+  taken s [] = []
+  taken s (k ∷ ks) =
+      cond (M .refuses s (k .byte) (k .lent))
+      (taken (answered s k) ks)
+      (record { byte = k .byte; codes = M .codes s (k .byte) (k .lent) } ∷ taken (answered s k) ks)
+
+  -- the state after the list
+  abbrev pub final : M .State → List Call → M .State
+  final s [] = s
+  final s (k ∷ ks) = final (answered s k) ks
+
+  abbrev pub bytes : List Taken → List ℕ
+  bytes ts = map (λ (t : Taken). t .byte) ts
+
+  abbrev pub told : List Taken → List (List ℕ)
+  told ts = map (λ (t : Taken). t .codes) ts
+
+-- REJECTED (01's term): "A rejected byte is one that returns 80, or 40"; past the end nothing is
+abbrev pub anyRejecting : List ℕ → Bool
+anyRejecting [] = false
+anyRejecting (w ∷ ws) = rejecting w || anyRejecting ws
+
+abbrev pub isRejected : List (List ℕ) → ℕ → Bool
+isRejected cs j = anyRejecting (getD cs j [])
+
+abbrev pub NoneRejected : List (List ℕ) → Type 0
+NoneRejected cs = (j : ℕ) → isRejected cs j ≡ false
+
+abbrev pub FirstRejected : List (List ℕ) → ℕ → Type 0
+FirstRejected cs k = (isRejected cs k ≡ true) × ((j : ℕ) → j < k → isRejected cs j ≡ false)
+
+-- DEMAND 3, of one list of calls from a state s
+pub record Demand3 (M : Machine) (s : M .State) (ks : List (Call M)) : Type 0 where
+  pub none-rejected : NoneRejected (told M (taken M s ks)) ↔ Continuable (M .context s) (bytes M (taken M s ks))
+  pub first-rejected : (k : ℕ) → FirstRejected (told M (taken M s ks)) k ↔ FirstWrong (M .context s) (bytes M (taken M s ks)) k
+  pub waits-for-nothing : (M .Idle (final M s ks) × NoneRejected (told M (taken M s ks))) ↔ Orderly (M .context s) (bytes M (taken M s ks))
+  pub divided-once : (p q : Division (M .context s) (bytes M (taken M s ks))) → p .0 ≡ q .0
+
+-- WHAT A MACHINE SHOWS to have it (proofs/Demand3.antt, `demand-3`): seen through a view of its state it follows the scanner
+
+-- what the scanner makes of a byte, the codes that the machine returns, and the views before and after
+abbrev pub Agree : Scanned → List ℕ → Scanner → Scanner → Type 0
+Agree (Accepted g) ws v v′ = (anyRejecting ws ≡ false) × (v′ ≡ g)
+Agree (Rejected w) ws v v′ = (ws ≡ w ∷ []) × (v′ ≡ v)
+
+pub record Follows (M : Machine) (view : M .State → Scanner) : Type 0 where
+  pub viewed : (s : M .State) → view s .context ≡ M .context s
+  pub idle : (s : M .State) → M .Idle s ↔ (view s .place ≡ Between)
+  pub kept : (s : M .State) (b : ℕ) (l : M .Lent) → M .refuses s b l ≡ true → M .next s b l ≡ s
+  pub good : (s : M .State) (b : ℕ) (l : M .Lent) → b < 256 → M .Good s → M .Good (M .next s b l)
+  pub step : (s : M .State) (b : ℕ) (l : M .Lent) → b < 256 → M .Good s → M .refuses s b l ≡ false → Agree (scan (view s) b) (M .codes s b l) (view s) (view (M .next s b l))

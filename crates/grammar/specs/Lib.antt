@@ -1,0 +1,5 @@
+pub mod Grammar
+pub mod Scanner
+pub mod Verdict
+pub mod Calls
+pub mod Edges
