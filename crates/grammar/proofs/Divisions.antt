@@ -5,7 +5,7 @@ use mathlib.Core.List.{List, [], _∷_, _++_, head-eq-of-cons-eq, tail-eq-of-con
 use native.Mathlib.Omega.{arith}
 use lib.ListN.{length}
 use Rattle.grammar.specs.Grammar.{Context, Command, count, after, last, Item, command, extended, Items, next, join, Division}
-use Rattle.grammar.proofs.Rows.{same-command, same-extended, no-1D}
+use Rattle.grammar.proofs.Table.{same-command, same-extended, no-1D}
 
 same-front : (a b r s : List ℕ) → length a ≡ length b → a ++ r ≡ b ++ s → a ≡ b
 same-front [] [] r s l e = refl

@@ -1,8 +1,10 @@
 -- The theorems on the grammar, and laws that the functions' proofs cite.
-pub mod Rows
+pub mod Table
+pub mod Lookups
+pub mod Scans
 pub mod Walks
 pub mod Divisions
 pub mod Decides
-pub mod Judge
+pub mod Verdicts
 pub mod Demand3
 pub mod Edges

@@ -8,7 +8,7 @@ use native.Mathlib.Omega.{arith}
 use lib.ListN.{length}
 use Rattle.grammar.specs.Grammar.{Context, Effect, Command, commands, extendedCommands, legal, count, after, last, Item, command, extended, Items, next, join, Orderly, Continuable, Bytes}
 use Rattle.grammar.specs.Scanner.{Place, Between, Extended, Inside, Scanner, Scanned, Accepted, Rejected, Opening, Unknown, Known, Extension, openingOf, extensionOf, codeFor, between, going, opened, scanAt, scan}
-use Rattle.grammar.proofs.Rows.{opening-known, opening-extension, opening-command, extension-known, extension-none, extension-command}
+use Rattle.grammar.proofs.Table.{opening-known, opening-extension, opening-command, extension-known, extension-none, extension-command}
 
 -- A WALK: the bytes are all accepted, and lead from one scanner to the other
 pub data Walk : Scanner → List ℕ → Scanner → Type 0 where

@@ -119,9 +119,9 @@ last b (x ∷ xs) = last x xs
 -- AN ITEM (01's term) in a context, with the context after it
 pub data Item (c : Context) : List ℕ → Context → Type 0 where
   command : (k : Command) → List·Memᴰ k commands → legal (k .needs) c ≡ true → (ops : List ℕ) → length ops ≡ count (k .operands) c
-    → Item c (k .code ∷ ops) (after (k .effect) (last (k .code) ops) c)
+      → Item c (k .code ∷ ops) (after (k .effect) (last (k .code) ops) c)
   extended : (k : Command) → List·Memᴰ k extendedCommands → legal (k .needs) c ≡ true → (ops : List ℕ) → length ops ≡ count (k .operands) c
-    → Item c (0x1D ∷ k .code ∷ ops) (after (k .effect) (last (k .code) ops) c)
+      → Item c (0x1D ∷ k .code ∷ ops) (after (k .effect) (last (k .code) ops) c)
 
 -- "items in a row, or none at all"
 pub data Items : Context → List (List ℕ) → Context → Type 0 where

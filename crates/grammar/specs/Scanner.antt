@@ -30,6 +30,15 @@ abbrev pub rowOf : ℕ → List Command → Opening
 rowOf b [] = Unknown
 rowOf b (k ∷ ks) = cond (eqb b (k .code)) (Known k) (rowOf b ks)
 
+abbrev pub isKnown : Opening → Bool
+isKnown Unknown = false
+isKnown (Known k) = true
+isKnown Extension = false
+
+-- what the row of a byte says, if the table has one
+abbrev pub RowSays : {A : Type 0} → List Command → ℕ → (Command → A) → A → Type 0
+RowSays table b part x = (k : Command) → rowOf b table ≡ Known k → x ≡ part k
+
 -- a byte between items, and a byte after 1D
 unfoldable pub openingOf : ℕ → Opening
 openingOf b = cond (eqb b 0x1D) Extension (rowOf b commands)

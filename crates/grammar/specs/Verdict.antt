@@ -37,7 +37,7 @@ verdict (rejectedAt k w) = Wrong k
 abbrev pub judgeOf : Context → List ℕ → Verdict
 judgeOf c bs = verdict (scanAll (between c) bs)
 
--- THEOREM (proofs/Judge.antt, `judge-right`): the judge's answers are 01's, and they exclude each other
+-- THEOREM (proofs/Verdicts.antt, `judge-right`): the judge's answers are 01's, and they exclude each other
 pub record Judged (c : Context) (bs : List ℕ) : Type 0 where
   pub answers : (v : Verdict) → (judgeOf c bs ≡ v) ↔ Says c bs v
   pub exclude : (v w : Verdict) → Says c bs v → Says c bs w → v ≡ w

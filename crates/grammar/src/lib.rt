@@ -1,4 +1,9 @@
 // The grammar of command streams, and the judge that decides it.
+ghost use mathlib.Core.Path.{_≡_};
+ghost use Rattle.grammar.specs.Verdict.{atEnd, judgeOf};
+
+mod rows;
+mod scanning;
 
 // The interface that is selected.
 pub enum Interface {
@@ -77,4 +82,35 @@ pub enum Verdict {
     Whole,
     Open,
     Wrong(usize),
+}
+
+// The verdict on bytes that end where a scanner stands.
+fn at_end(p: Place) -> Verdict
+    ensures { λ r. ⌜ r ≡ atEnd p ⌝ }
+{
+    match p {
+        Place::Between => Verdict::Whole,
+        Place::Extended => Verdict::Open,
+        Place::Inside(_, _) => Verdict::Open,
+    }
+}
+
+// Judges bytes from a context: whole, open, or wrong at the first place that can't be continued.
+pub fn judge(c: Context, bytes: &[u8]) -> Verdict
+    ensures { λ r. ⌜ r ≡ judgeOf c (now (bytes .entry)) ⌝ }
+{
+    let mut g = Scanner {
+        context: c,
+        place: Place::Between,
+    };
+    let mut i = 0;
+    while i < bytes.len() {
+        let Scanned::Accepted(h) = scanning::scan_byte(g, bytes[i]) else {
+            return Verdict::Wrong(i);
+        };
+        g = h;
+        i += 1;
+    }
+    let p = g.place;
+    at_end(p)
 }

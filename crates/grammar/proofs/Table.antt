@@ -49,7 +49,7 @@ fresh-mem b {k} f (List·Memᴰ·tail {x = x} {xs = xs} m) = fresh-mem b (and-ri
 
 -- LOOKING A BYTE UP
 
-row-sound : (b : ℕ) (l : List Command) (k : Command) → rowOf b l ≡ Known k → List·Memᴰ k l × (b ≡ k .code)
+pub row-sound : (b : ℕ) (l : List Command) (k : Command) → rowOf b l ≡ Known k → List·Memᴰ k l × (b ≡ k .code)
 row-sound b [] k e = let z : _≡_ {A = ℕ} 0 1 = cc in absurd (omega arith)
 row-sound b (x ∷ xs) k e = go (eqb b (x .code)) refl e (row-sound b xs k)
   where
@@ -66,7 +66,7 @@ row-complete {k} d (List·Memᴰ·tail {x = x} {xs = xs} m) =
     ap (λ (t : Bool). cond t (Known x) (rowOf (k .code) xs)) (fresh-mem (x .code) (and-left (fresh (x .code) xs) (distinct xs) d) m)
     ∙ row-complete (and-right (fresh (x .code) xs) (distinct xs) d) m
 
-row-no-extension : (b : ℕ) (l : List Command) → rowOf b l ≡ Extension → ⊥
+pub row-no-extension : (b : ℕ) (l : List Command) → rowOf b l ≡ Extension → ⊥
 row-no-extension b [] e = let z : _≡_ {A = ℕ} 0 1 = cc in omega arith
 row-no-extension b (x ∷ xs) e = go (eqb b (x .code)) e (row-no-extension b xs)
   where
