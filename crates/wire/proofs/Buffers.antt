@@ -4,9 +4,11 @@ use mathlib.Core.Bool.{false}
 use mathlib.Core.List.{List, [], _∷_, _++_, append-nil}
 use Prim.Native.Nat.{ℕ, zero, suc, _+_, _-_, _≤_, _<_}
 use native.Mathlib.Nat.{add-assoc, add-zero, zero-add, add-suc, suc-add, le-of-eq}
+use native.Mathlib.Decide.{decLe}
 use native.Mathlib.Omega.{arith}
 use native.Mathlib.Numerals.{add-one}
-use borrow.Author.Tests.{lt-leb}
+use borrow.Author.Tests.{le-leb, lt-leb}
+use lib.Dec.{leb}
 use lib.ListN.{getD, length, take, drop, set, length-append, length-drop, drop-of-length-le}
 use lib.Seq.{drop-cons, length-sets, sets-eq, take-all, take-set-le, drop-set-lt}
 use Rattle.wire.specs.Buffer.{overwrite, fitsIn, Written, Overwritten}
@@ -22,6 +24,14 @@ overwrite-right l at xs = record { size = overwrite-length l at xs; parts = sets
 -- a mark past the end leaves room for nothing, not even for no byte
 pub past-the-end : (size mark need : ℕ) → size < mark → fitsIn size mark need ≡ false
 past-the-end size mark need h = lt-leb (mark + need) size (omega arith)
+
+-- the room after a mark is what the mark leaves of the size
+pub room-left : (size mark need : ℕ) → mark ≤ size → leb need (size - mark) ≡ fitsIn size mark need
+room-left size mark need h = go (decLe need (size - mark))
+  where
+    go : Dec (need ≤ size - mark) → leb need (size - mark) ≡ leb (mark + need) size
+    go (yes k) = le-leb need (size - mark) k ∙ sym (le-leb (mark + need) size (omega arith))
+    go (no k) = lt-leb need (size - mark) (omega arith) ∙ sym (lt-leb (mark + need) size (omega arith))
 
 -- nothing written changes nothing
 pub overwrite-none : (l : List ℕ) (at : ℕ) → overwrite l at [] ≡ l

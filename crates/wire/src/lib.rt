@@ -77,11 +77,9 @@ pub fn put_action(out: &mut [u8], at: usize, verb: u8, line: u8, value: u16) -> 
     requires { ⌜ at + 4 ≤ length (now out) ⌝ }
     ensures { λ next. ⌜ Written (now (out .entry)) at (actionBytes (action verb line value)) (now (out .exit)) next ⌝ }
 {
-    put_bytes(
-        out,
-        at,
-        &[verb, line, (value % 256) as u8, (value / 256 % 256) as u8],
-    )
+    let low = (value % 256) as u8;
+    let high = (value / 256 % 256) as u8;
+    put_bytes(out, at, &[verb, line, low, high])
 }
 
 // Whether so many bytes fit after a mark; a mark past the end leaves room for nothing, not even for no byte.
@@ -91,10 +89,7 @@ pub fn fits(size: usize, mark: usize, need: usize) -> bool
     if size < mark {
         return false;
     }
-    if size - mark < need {
-        return false;
-    }
-    true
+    need <= size - mark
 }
 
 // The byte at a place of lent bytes, 0 past the end. A port's sample is this byte as it stands.

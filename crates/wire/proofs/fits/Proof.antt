@@ -1,8 +1,7 @@
--- Each way out is one test of the sum against the size.
-use Prim.Native.Nat.{_+_}
+-- Past the end nothing fits, and before it what is left of the size decides.
 use mathlib.Core.Path.{sym}
-use native.Mathlib.Omega.{arith}
-use borrow.Author.Tests.{le-leb, lt-leb}
+use borrow.Author.Needs.{needs}
+use Rattle.wire.proofs.Buffers.{past-the-end, room-left}
 use Rattle.wire.proofs.fits.Statement.{statement}
 use Rattle.wire.proofs.fits.Tie as tie
 
@@ -10,6 +9,5 @@ pub fits-spec : {M : Type 1} → statement M
 fits-spec =
     tie.close
     (tie.spec
-    (λ c. sym (lt-leb (c .before .args .mark + c .before .args .need) (c .before .args .size) (omega arith)))
-    (λ c. sym (lt-leb (c .before .before .args .mark + c .before .before .args .need) (c .before .before .args .size) (omega arith)))
-    (λ c. sym (le-leb (c .before .before .args .mark + c .before .before .args .need) (c .before .before .args .size) (omega arith))))
+    (λ c. sym (past-the-end (c .before .args .size) (c .before .args .mark) (c .before .args .need) (c .if1 .taken)))
+    (λ c. room-left (c .before .args .size) (c .before .args .mark) (c .before .args .need) (c .if1 .left)))
