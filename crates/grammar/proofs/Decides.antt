@@ -1,14 +1,14 @@
 -- The scanner decides the grammar: it goes through exactly what can be continued, ends between items exactly after orderly
 -- bytes, and stops at the first wrong place. Assumes nothing.
-use Prim.Native.Nat.{ℕ, zero, suc, _<_, _≤_}
-use mathlib.Core.Path.{_≡_, refl, sym, _∙_, ap, subst}
+use Prim.Native.Nat.{ℕ, zero, suc, _<_}
+use mathlib.Core.Path.{_≡_, refl, _∙_, ap, subst}
 use mathlib.Core.Bool.{Bool, true, false, cond}
-use mathlib.Core.List.{List, [], _∷_, _++_}
+use mathlib.Core.List.{List, [], _∷_}
 use native.Mathlib.Omega.{arith}
 use lib.ListN.{length, take}
-use Rattle.grammar.specs.Grammar.{SPI, Context, Needs, Common, Selected, Configured, Command, selected, legal, count, Orderly, Continuable}
+use Rattle.grammar.specs.Grammar.{SPI, Context, Needs, Common, Selected, Configured, selected, legal, count}
 use Rattle.grammar.specs.Scanner.{Place, Between, Extended, Inside, Scanner, Scanned, Accepted, Rejected, Opening, Unknown, Known, Extension, openingOf, extensionOf, codeFor, between, going, opened, scanAt, scan, Course, through, rejectedAt, later, resume, scanAll}
-use Rattle.grammar.specs.Verdict.{FirstWrong, rejecting, Decided}
+use Rattle.grammar.specs.Verdict.{rejecting, Decided}
 use Rattle.grammar.proofs.Walks.{Walk, stay, move, orderly-walk, continuable-walk}
 
 -- COURSES AND WALKS

@@ -5,9 +5,8 @@ use mathlib.Core.Bool.{Bool, true, false, cond, _||_, true≢false}
 use mathlib.Core.List.{List, [], _∷_}
 use native.Mathlib.Omega.{arith}
 use native.Mathlib.Decide.{decLt}
-use lib.ListN.{getD}
 use Rattle.grammar.specs.Grammar.{Context}
-use Rattle.grammar.specs.Scanner.{Place, Between, Scanner, Scanned, Accepted, Rejected, between, scan, Course, through, rejectedAt, later, resume, scanAll}
+use Rattle.grammar.specs.Scanner.{Scanner, Scanned, Accepted, Rejected, between, scan, Course, through, rejectedAt, later, resume, scanAll}
 use Rattle.grammar.specs.Verdict.{FirstWrong}
 use Rattle.grammar.specs.Calls.{Machine, Call, Taken, answered, taken, final, bytes, told, anyRejecting, isRejected, NoneRejected, FirstRejected, Demand3, Agree, Follows}
 use Rattle.grammar.proofs.Divisions.{one-division}

@@ -5,9 +5,9 @@ use mathlib.Core.Bool.{Bool, true, false, cond, not, _&&_, true≢false, false�
 use mathlib.Core.List.{List, [], _∷_, List·Memᴰ, List·Memᴰ·head, List·Memᴰ·tail}
 use native.Mathlib.Omega.{arith}
 use borrow.Author.Tests.{eq-eqb}
-use lib.Dec.{T, eqb, eqb→eq, eqb-refl}
+use lib.Dec.{T, eqb, eqb→eq}
 use Rattle.grammar.specs.Grammar.{Command, commands, extendedCommands}
-use Rattle.grammar.specs.Scanner.{Opening, Unknown, Known, Extension, rowOf, openingOf, extensionOf}
+use Rattle.grammar.specs.Scanner.{Known, Extension, rowOf, openingOf, extensionOf}
 
 and-left : (a b : Bool) → a && b ≡ true → a ≡ true
 and-left true b e = refl

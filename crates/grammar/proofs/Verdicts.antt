@@ -1,11 +1,11 @@
 -- The judge answers as 01's section "Grammar" says. Assumes nothing.
 use Prim.Native.Nat.{ℕ, zero, suc, _<_, _≤_}
-use mathlib.Core.Path.{_≡_, refl, sym, _∙_, ap, subst}
+use mathlib.Core.Path.{_≡_, refl, sym, ap, subst}
 use mathlib.Core.List.{List, [], _∷_, _++_, append-nil}
 use mathlib.Core.Logic.{_↔_}
 use native.Mathlib.Omega.{arith}
 use native.Mathlib.Decide.{decLt}
-use lib.ListN.{length, take, drop, take-append-drop}
+use lib.ListN.{take, drop, take-append-drop}
 use Rattle.grammar.specs.Grammar.{Context, Orderly, Continuable}
 use Rattle.grammar.specs.Scanner.{Place, Between, Extended, Inside, Scanner, between, Course, through, rejectedAt, scanAll}
 use Rattle.grammar.specs.Verdict.{Verdict, Whole, Open, Wrong, SmallestWrong, Says, atEnd, verdict, judgeOf, Judged, FirstWrong}

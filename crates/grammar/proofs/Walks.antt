@@ -2,12 +2,12 @@
 use Prim.Native.Nat.{ℕ, zero, suc}
 use mathlib.Core.Path.{_≡_, refl, sym, _∙_, ap, subst}
 use mathlib.Core.Bool.{Bool, true, false, cond}
-use mathlib.Core.List.{List, [], _∷_, _++_, List·Memᴰ}
+use mathlib.Core.List.{List, [], _∷_, _++_}
 use mathlib.Core.Logic.{_↔_}
 use native.Mathlib.Omega.{arith}
 use lib.ListN.{length}
-use Rattle.grammar.specs.Grammar.{Context, Effect, Command, commands, extendedCommands, legal, count, after, last, Item, command, extended, Items, next, join, Orderly, Continuable, Bytes}
-use Rattle.grammar.specs.Scanner.{Place, Between, Extended, Inside, Scanner, Scanned, Accepted, Rejected, Opening, Unknown, Known, Extension, openingOf, extensionOf, codeFor, between, going, opened, scanAt, scan}
+use Rattle.grammar.specs.Grammar.{Context, Effect, Command, extendedCommands, legal, count, after, last, Item, command, extended, Items, next, join, Orderly, Continuable, Bytes}
+use Rattle.grammar.specs.Scanner.{Place, Between, Extended, Inside, Scanner, Accepted, Rejected, Opening, Unknown, Known, Extension, openingOf, extensionOf, codeFor, between, going, opened, scanAt, scan}
 use Rattle.grammar.proofs.Table.{opening-known, opening-extension, opening-command, extension-known, extension-none, extension-command}
 
 -- A WALK: the bytes are all accepted, and lead from one scanner to the other

@@ -2,12 +2,10 @@
 -- grammar is a theorem (proofs/Decides.antt, `decides`).
 use Prim.Native.Nat.{ℕ, zero, suc}
 use mathlib.Core.Path.{_≡_}
-use mathlib.Core.Bool.{Bool, true, false, cond, _||_}
+use mathlib.Core.Bool.{Bool, true, false, cond}
 use mathlib.Core.List.{List, [], _∷_}
-use mathlib.Core.Logic.{_↔_}
-use mathlib.Core.Option.{Option, none, some}
 use lib.Dec.{eqb}
-use Rattle.grammar.specs.Grammar.{SPI, Context, Needs, Common, Selected, Configured, Effect, Command, commands, extendedCommands, selected, legal, count, after, Orderly, Continuable}
+use Rattle.grammar.specs.Grammar.{SPI, Context, Needs, Common, Selected, Configured, Effect, Command, commands, extendedCommands, selected, legal, count, after}
 pub use Rattle.grammar.specs.declared.Place.{Place}
 pub use Rattle.grammar.specs.declared.Place.the-variants.{Between, Extended, Inside}
 pub use Rattle.grammar.specs.declared.Scanner.{Scanner}

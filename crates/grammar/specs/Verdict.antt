@@ -2,12 +2,11 @@
 -- judge to the grammar.
 use Prim.Native.Nat.{ℕ, suc, _<_}
 use mathlib.Core.Path.{_≡_}
-use mathlib.Core.Bool.{true}
 use mathlib.Core.List.{List}
 use mathlib.Core.Logic.{_↔_}
 use lib.Dec.{eqb}
 use lib.ListN.{length, take}
-use mathlib.Core.Bool.{Bool, _||_}
+use mathlib.Core.Bool.{Bool, true, _||_}
 use Rattle.grammar.specs.Grammar.{Context, Orderly, Continuable}
 use Rattle.grammar.specs.Scanner.{Place, Between, Extended, Inside, Scanner, between, Course, through, rejectedAt, scanAll}
 pub use Rattle.grammar.specs.declared.Verdict.{Verdict}

@@ -7,7 +7,7 @@ use Prim.Native.Nat.{ℕ, zero, suc, _+_, _-_, _*_, _/_, _%_, _≤_, _<_}
 use native.Mathlib.Nat.{le-refl, sub-zero, zero-sub, suc-sub-suc, not-suc-le-zero}
 use native.Mathlib.Numerals.{sub-one, one-add, add-one}
 use native.Mathlib.Omega.{arith}
-use lib.ListN.{length, getD, take, drop, set, replicate, length-append, length-drop, length-set, length-replicate}
+use lib.ListN.{length, getD, take, drop, set, length-append, length-drop, length-set, length-replicate}
 use lib.Seq.{take-length, drop-length, take-set-le, drop-set-lt, drop-cons, drop-drop, take-suc, getD-set-same, drop-append-le}
 use Rattle.packet.specs.Register.{byteBits, bits, number, register, zeros}
 use Rattle.packet.specs.Packet.{kept, movedUp, order, received, takenIn}

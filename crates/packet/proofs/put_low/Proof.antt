@@ -1,12 +1,9 @@
 -- The register's own bytes loaded are its bytes lowest first, and the first of them are its low bytes.
 use borrow.Author.Needs.{needs}
-use mathlib.Core.Path.{_≡_, sym, subst}
-use mathlib.Core.List.{List}
-use Prim.Native.Nat.{ℕ, _+_, _≤_}
+use mathlib.Core.Path.{_≡_, sym}
 use native.Mathlib.Omega.{arith}
-use lib.ListN.{length, take}
+use lib.ListN.{take}
 use lib.Seq.{length-take-le}
-use Rattle.wire.specs.Buffer.{Written}
 use Rattle.packet.specs.Packet.{registerBytes, lowBytes}
 use Rattle.packet.proofs.Loads.{low-bytes}
 use Rattle.packet.proofs.put_low.Statement.{statement}

@@ -1,6 +1,5 @@
 -- Past the end nothing fits, and before it what is left of the size decides.
 use mathlib.Core.Path.{sym}
-use borrow.Author.Needs.{needs}
 use Rattle.wire.proofs.Buffers.{past-the-end, room-left}
 use Rattle.wire.proofs.fits.Statement.{statement}
 use Rattle.wire.proofs.fits.Tie as tie

@@ -1,6 +1,6 @@
 -- The row's three parts are the three lookups'.
 use borrow.Author.Needs.{needs}
-use mathlib.Core.Path.{_≡_, sym, ap, _∙_}
+use mathlib.Core.Path.{sym, ap, _∙_}
 use Rattle.grammar.specs.Scanner.{openingOf}
 use Rattle.grammar.proofs.Lookups.{opening-made, opening-unknown}
 use Rattle.grammar.proofs.rows.opening.Statement.{statement}
