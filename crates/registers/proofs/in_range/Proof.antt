@@ -1,0 +1,12 @@
+-- The page's test and the wait's.
+use borrow.Author.Needs.{needs}
+use Rattle.registers.proofs.in_range.Statement.{statement}
+use Rattle.registers.proofs.in_range.Tie as tie
+
+pub in-range-spec : {M : Type 1} → statement M
+in-range-spec =
+    tie.close
+    (tie.spec
+    (λ c κs. search needs)
+    (λ c κs. search needs)
+    (λ c. rw (c .before .page-fits .ensures, c .wait-fits .ensures)))

@@ -1,0 +1,59 @@
+-- The ranges of a state (01, "Refusal numbers", row 1): the test, and the facts that it stands for.
+use Prim.Native.Nat.{ℕ, _+_, _/_, _%_, _<_, _≤_}
+use mathlib.Core.Path.{_≡_}
+use mathlib.Core.Bool.{Bool, true, _&&_}
+use mathlib.Core.Logic.{_↔_}
+use lib.Dec.{eqb, leb, ltb}
+use Rattle.packet.specs.Packet.{width, packetBytes}
+use Rattle.registers.specs.Registers.{Page, State, Operand, ToPort, ToCycles, ToI2c, ToConfig, ToSize, ToWire, ToWireBit, ToWireStrong, Wait, Nothing, One, Extended, Packet, Timings, i2cSelected, spiSelected, wireSelected, bitsIn}
+
+-- how many interfaces are selected
+abbrev pub selectedCount : ℕ → ℕ
+selectedCount flags = flags % 2 + flags / 2 % 2 + flags / 4 % 2
+
+-- a wait for an operand: not "of an interface not selected"
+abbrev pub operandFits : Operand → ℕ → Bool
+operandFits (ToPort r) flags = true
+operandFits ToCycles flags = true
+operandFits ToI2c flags = i2cSelected flags
+operandFits ToConfig flags = spiSelected flags
+operandFits ToSize flags = spiSelected flags
+operandFits ToWire flags = wireSelected flags
+operandFits ToWireBit flags = wireSelected flags
+operandFits ToWireStrong flags = wireSelected flags
+
+-- a packet wait: selected, configured, "for 1 to ceil(N/8) bytes"; a timing wait: selected, "for 1 to 9"
+abbrev pub waitFits : Wait → ℕ → Bool → ℕ → Bool
+waitFits Nothing flags configured n = true
+waitFits (One o) flags configured n = operandFits o flags
+waitFits Extended flags configured n = true
+waitFits (Packet left exchange) flags configured n = spiSelected flags && configured && leb 1 left && leb left (packetBytes n)
+waitFits (Timings left) flags configured n = wireSelected flags && leb 1 left && leb left 9
+
+-- in the table's order: two interfaces, flag bits 5 to 7, size register over 63, SPI configuration over 7, C 6, 7, D 0, 1
+abbrev pub pageFits : Page → Bool
+pageFits p =
+    leb (selectedCount (p .flags)) 1 && ltb (p .flags) 32 && ltb (p .size) width && leb (p .config) 7
+    && ltb (p .ddrc) 64 && ltb (p .portc) 64 && eqb (p .ddrd % 4) 0 && eqb (p .portd % 4) 0
+
+abbrev pub stateFits : State → Bool
+stateFits s = pageFits (s .page) && waitFits (s .wait) (s .page .flags) (s .page .configured) (bitsIn (s .page))
+
+-- THE FACTS, by name
+pub record PageInRange (p : Page) : Type 0 where
+  pub one-interface : selectedCount (p .flags) ≤ 1
+  pub flag-bits : p .flags < 32
+  pub size : p .size < width
+  pub config : p .config ≤ 7
+  pub ddrc : p .ddrc < 64
+  pub portc : p .portc < 64
+  pub ddrd : p .ddrd % 4 ≡ 0
+  pub portd : p .portd % 4 ≡ 0
+
+pub record InRange (s : State) : Type 0 where
+  pub page : PageInRange (s .page)
+  pub wait : waitFits (s .wait) (s .page .flags) (s .page .configured) (bitsIn (s .page)) ≡ true
+
+-- THEOREM (proofs/InRange.antt, `range-test`): the test says exactly these facts
+abbrev pub RangeTest : State → Type 0
+RangeTest s = (stateFits s ≡ true) ↔ InRange s

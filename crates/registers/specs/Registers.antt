@@ -1,0 +1,141 @@
+-- The state's registers (01, "Registers and common commands") and its parts by name. The types are declared in src/lib.rt.
+use Prim.Native.Nat.{ℕ, _+_, _*_, _/_, _%_}
+use mathlib.Core.Bool.{Bool, true}
+use mathlib.Core.List.{List}
+use lib.Dec.{eqb}
+use Rattle.packet.specs.Register.{zeros}
+use Rattle.wire.specs.Action.{portB, portC, portD, setDirection, setLatch}
+pub use Rattle.registers.specs.declared.Page.{Page}
+pub use Rattle.registers.specs.declared.Shared.{Shared}
+pub use Rattle.registers.specs.declared.State.{State}
+pub use Rattle.registers.specs.declared.PortRegister.{PortRegister}
+pub use Rattle.registers.specs.declared.PortRegister.the-variants.{Ddrb, Portb, Ddrc, Portc, Ddrd, Portd}
+pub use Rattle.registers.specs.declared.Operand.{Operand}
+pub use Rattle.registers.specs.declared.Operand.the-variants.{ToPort, ToCycles, ToI2c, ToConfig, ToSize, ToWire, ToWireBit, ToWireStrong}
+pub use Rattle.registers.specs.declared.Wait.{Wait}
+pub use Rattle.registers.specs.declared.Wait.the-variants.{Nothing, One, Extended, Packet, Timings}
+pub use Rattle.registers.specs.declared.Fault.{Fault}
+pub use Rattle.registers.specs.declared.Fault.the-variants.{Frame, Overrun, Parity}
+pub use Rattle.registers.specs.declared.Event.{Event}
+pub use Rattle.registers.specs.declared.Event.the-variants.{Byte, Faulty}
+
+-- COMMON_FLAGS: "bit 0 I2C, 1 SPI, 2 1-Wire, 3 REPORTS_EN, 4 AUTOLOAD_EN"
+abbrev pub i2cSelected : ℕ → Bool
+i2cSelected flags = eqb (flags % 2) 1
+
+abbrev pub spiSelected : ℕ → Bool
+spiSelected flags = eqb (flags / 2 % 2) 1
+
+abbrev pub wireSelected : ℕ → Bool
+wireSelected flags = eqb (flags / 4 % 2) 1
+
+abbrev pub reportsOn : ℕ → Bool
+reportsOn flags = eqb (flags / 8 % 2) 1
+
+-- CONFIG_SPI: bit 0 CPHA, 1 CPOL, 2 high bit first
+abbrev pub phaseOf : ℕ → Bool
+phaseOf config = eqb (config % 2) 1
+
+abbrev pub polarityOf : ℕ → ℕ
+polarityOf config = config / 2 % 2
+
+abbrev pub highFirst : ℕ → Bool
+highFirst config = eqb (config / 4 % 2) 1
+
+-- N: "register + 1"
+abbrev pub bitsIn : Page → ℕ
+bitsIn p = p .size + 1
+
+-- a fault's code: "81 frame, 82 overrun, 83 parity"
+abbrev pub faultCode : Fault → ℕ
+faultCode Frame = 0x81
+faultCode Overrun = 0x82
+faultCode Parity = 0x83
+
+-- THE PORT REGISTERS
+
+abbrev pub registerOf : Page → PortRegister → ℕ
+registerOf p Ddrb = p .ddrb
+registerOf p Portb = p .portb
+registerOf p Ddrc = p .ddrc
+registerOf p Portc = p .portc
+registerOf p Ddrd = p .ddrd
+registerOf p Portd = p .portd
+
+-- the verb and the line of the action that carries a port register
+abbrev pub verbOf : PortRegister → ℕ
+verbOf Ddrb = setDirection
+verbOf Portb = setLatch
+verbOf Ddrc = setDirection
+verbOf Portc = setLatch
+verbOf Ddrd = setDirection
+verbOf Portd = setLatch
+
+abbrev pub lineOf : PortRegister → ℕ
+lineOf Ddrb = portB
+lineOf Portb = portB
+lineOf Ddrc = portC
+lineOf Portc = portC
+lineOf Ddrd = portD
+lineOf Portd = portD
+
+-- "Protected bits keep their old bits: C 6, 7; D 0, 1, 5"
+abbrev pub keepC : ℕ → ℕ → ℕ
+keepC old new = new % 64 + old / 64 * 64
+
+abbrev pub keepD : ℕ → ℕ → ℕ
+keepD old new = old % 4 + new / 4 % 8 * 4 + old / 32 % 2 * 32 + new / 64 * 64
+
+abbrev pub protected : PortRegister → ℕ → ℕ → ℕ
+protected Ddrb old new = new
+protected Portb old new = new
+protected Ddrc old new = keepC old new
+protected Portc old new = keepC old new
+protected Ddrd old new = keepD old new
+protected Portd old new = keepD old new
+
+-- A STATE WITH ONE PART ANOTHER
+
+abbrev pub withFlags : Page → ℕ → Page
+withFlags p x = record { flags = x; error = p .error; ddrb = p .ddrb; portb = p .portb; ddrc = p .ddrc; portc = p .portc; ddrd = p .ddrd; portd = p .portd; config = p .config; configured = p .configured; size = p .size; packet = p .packet; timings = p .timings }
+
+abbrev pub withError : Page → ℕ → Page
+withError p x = record { flags = p .flags; error = x; ddrb = p .ddrb; portb = p .portb; ddrc = p .ddrc; portc = p .portc; ddrd = p .ddrd; portd = p .portd; config = p .config; configured = p .configured; size = p .size; packet = p .packet; timings = p .timings }
+
+abbrev pub withRegister : Page → PortRegister → ℕ → Page
+withRegister p Ddrb x = record { flags = p .flags; error = p .error; ddrb = x; portb = p .portb; ddrc = p .ddrc; portc = p .portc; ddrd = p .ddrd; portd = p .portd; config = p .config; configured = p .configured; size = p .size; packet = p .packet; timings = p .timings }
+withRegister p Portb x = record { flags = p .flags; error = p .error; ddrb = p .ddrb; portb = x; ddrc = p .ddrc; portc = p .portc; ddrd = p .ddrd; portd = p .portd; config = p .config; configured = p .configured; size = p .size; packet = p .packet; timings = p .timings }
+withRegister p Ddrc x = record { flags = p .flags; error = p .error; ddrb = p .ddrb; portb = p .portb; ddrc = x; portc = p .portc; ddrd = p .ddrd; portd = p .portd; config = p .config; configured = p .configured; size = p .size; packet = p .packet; timings = p .timings }
+withRegister p Portc x = record { flags = p .flags; error = p .error; ddrb = p .ddrb; portb = p .portb; ddrc = p .ddrc; portc = x; ddrd = p .ddrd; portd = p .portd; config = p .config; configured = p .configured; size = p .size; packet = p .packet; timings = p .timings }
+withRegister p Ddrd x = record { flags = p .flags; error = p .error; ddrb = p .ddrb; portb = p .portb; ddrc = p .ddrc; portc = p .portc; ddrd = x; portd = p .portd; config = p .config; configured = p .configured; size = p .size; packet = p .packet; timings = p .timings }
+withRegister p Portd x = record { flags = p .flags; error = p .error; ddrb = p .ddrb; portb = p .portb; ddrc = p .ddrc; portc = p .portc; ddrd = p .ddrd; portd = x; config = p .config; configured = p .configured; size = p .size; packet = p .packet; timings = p .timings }
+
+abbrev pub configuredAs : Page → ℕ → Page
+configuredAs p x = record { flags = p .flags; error = p .error; ddrb = p .ddrb; portb = p .portb; ddrc = p .ddrc; portc = p .portc; ddrd = p .ddrd; portd = p .portd; config = x; configured = true; size = p .size; packet = p .packet; timings = p .timings }
+
+abbrev pub withSize : Page → ℕ → Page
+withSize p x = record { flags = p .flags; error = p .error; ddrb = p .ddrb; portb = p .portb; ddrc = p .ddrc; portc = p .portc; ddrd = p .ddrd; portd = p .portd; config = p .config; configured = p .configured; size = x; packet = p .packet; timings = p .timings }
+
+abbrev pub withPacket : Page → List ℕ → Page
+withPacket p r = record { flags = p .flags; error = p .error; ddrb = p .ddrb; portb = p .portb; ddrc = p .ddrc; portc = p .portc; ddrd = p .ddrd; portd = p .portd; config = p .config; configured = p .configured; size = p .size; packet = r; timings = p .timings }
+
+abbrev pub withTimings : Page → List ℕ → Page
+withTimings p ts = record { flags = p .flags; error = p .error; ddrb = p .ddrb; portb = p .portb; ddrc = p .ddrc; portc = p .portc; ddrd = p .ddrd; portd = p .portd; config = p .config; configured = p .configured; size = p .size; packet = p .packet; timings = ts }
+
+abbrev pub withPage : State → Page → State
+withPage s p = record { page = p; shared = s .shared; wait = s .wait; held = s .held }
+
+abbrev pub withShared : State → Shared → State
+withShared s h = record { page = s .page; shared = h; wait = s .wait; held = s .held }
+
+-- waiting anew: nothing is held where a wait begins
+abbrev pub waiting : State → Wait → State
+waiting s w = record { page = s .page; shared = s .shared; wait = w; held = zeros 9 }
+
+-- waiting on, with what is held
+abbrev pub holding : State → Wait → List ℕ → State
+holding s w h = record { page = s .page; shared = s .shared; wait = w; held = h }
+
+-- a new page, and nothing waited for or held
+abbrev pub settled : State → Page → State
+settled s p = record { page = p; shared = s .shared; wait = Nothing; held = zeros 9 }

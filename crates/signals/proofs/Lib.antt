@@ -1,0 +1,1 @@
+-- Laws that the proofs of this crate and of the crates above cite.

@@ -1,0 +1,5 @@
+pub mod Lines
+pub mod I2c
+pub mod Spi
+pub mod OneWire
+pub mod Waveforms

@@ -1,0 +1,48 @@
+-- Actions in 01's words, and the levels that samples give. Every waveform is made of these.
+use Prim.Native.Nat.{ℕ, zero, suc, _+_}
+use mathlib.Core.List.{List, [], _∷_, _++_}
+use Rattle.packet.specs.Register.{number}
+use Rattle.packet.specs.Packet.{order}
+use mathlib.Core.Bool.{Bool}
+use Rattle.wire.specs.Action.{Action, action, release, driveLow, driveHigh, sampleLine, waitMicroseconds, setDirection, setLatch, portB, portC, portD, noLine}
+use Rattle.wire.specs.Sample.{levelAt}
+
+abbrev pub released : ℕ → Action
+released line = action release line 0
+
+abbrev pub low : ℕ → Action
+low line = action driveLow line 0
+
+abbrev pub high : ℕ → Action
+high line = action driveHigh line 0
+
+abbrev pub sampled : ℕ → Action
+sampled line = action sampleLine line 0
+
+-- a wait of n µs
+abbrev pub waits : ℕ → Action
+waits n = action waitMicroseconds noLine n
+
+-- a line driven low for 0, high for 1
+abbrev pub driven : ℕ → ℕ → Action
+driven line level = action (1 + level) line 0
+
+-- what f gives for each of a list, in a row
+unfoldable pub each : (ℕ → List Action) → List ℕ → List Action
+each f [] = []
+each f (x ∷ xs) = f x ++ each f xs
+
+-- the levels of n samples from place s on; low past the end
+unfoldable pub levels : List ℕ → ℕ → ℕ → List ℕ
+levels ss s zero = []
+levels ss s (suc n) = levelAt ss s ∷ levels ss (s + 1) n
+
+-- the byte of eight levels, the first of them highest or lowest
+abbrev pub byteOf : Bool → List ℕ → ℕ
+byteOf highFirst rs = number 0 (order highFirst rs)
+
+-- Reinit: "six actions, direction then latch, for B, C, D"
+abbrev pub reinit : List Action
+reinit =
+    action setDirection portB 0 ∷ action setLatch portB 0 ∷ action setDirection portC 0 ∷ action setLatch portC 0
+    ∷ action setDirection portD 0 ∷ action setLatch portD 0 ∷ []
