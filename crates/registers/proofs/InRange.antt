@@ -1,13 +1,13 @@
 -- The range test says exactly the facts of 01's table. Assumes nothing.
 use Prim.Native.Nat.{ℕ, _+_, _/_, _%_, _<_, _≤_}
-use mathlib.Core.Path.{_≡_, refl, sym, _∙_}
+use mathlib.Core.Path.{_≡_, refl, subst}
 use mathlib.Core.Bool.{Bool, true, false, _&&_, false≢true}
 use native.Mathlib.Omega.{arith}
 use borrow.Author.Tests.{lt-ltb, le-leb, eq-eqb, ltb-true, leb-true, eqb-true}
 use lib.Dec.{eqb, leb, ltb}
 use Rattle.packet.specs.Packet.{width, packetBytes}
-use Rattle.registers.specs.Registers.{Page, State, bitsIn}
-use Rattle.registers.specs.Ranges.{selectedCount, waitFits, pageFits, stateFits, PageInRange, InRange, RangeTest}
+use Rattle.registers.specs.Registers.{Page, State, Wait, Packet, Timings, spiSelected, wireSelected, bitsIn}
+use Rattle.registers.specs.Ranges.{selectedCount, waitFits, pageFits, PageInRange, InRange, RangeTest}
 
 -- ceil(N/8) by the size register
 pub most-left : (size : ℕ) → size / 8 + 1 ≡ packetBytes (size + 1)
@@ -63,3 +63,23 @@ range-test s =
       λ e. record { page = facts (s .page) (both-left (pageFits (s .page)) w e); wait = both-right (pageFits (s .page)) w e },
       λ r. both (tested (s .page) (r .page)) (r .wait),
     )
+
+-- WHAT A WAIT'S FACT SAYS
+
+wait-as : (s : State) (w : Wait) → InRange s → s .wait ≡ w → waitFits w (s .page .flags) (s .page .configured) (bitsIn (s .page)) ≡ true
+wait-as s w r e = subst (λ (v : Wait). waitFits v (s .page .flags) (s .page .configured) (bitsIn (s .page)) ≡ true) e (r .wait)
+
+pub packet-left : (s : State) (left : ℕ) (exchange : Bool) → InRange s → s .wait ≡ Packet left exchange → (s .page .size < width) × (1 ≤ left) × (left ≤ s .page .size / 8 + 1)
+packet-left s left exchange r e =
+    let a = spiSelected (s .page .flags) in
+    let b = s .page .configured in
+    let most = packetBytes (bitsIn (s .page)) in
+    let t = wait-as s (Packet left exchange) r e in
+    let u = leb-true left most (both-right (a && b && leb 1 left) (leb left most) t) in
+    (r .page .size, leb-true 1 left (both-right (a && b) (leb 1 left) (both-left (a && b && leb 1 left) (leb left most) t)), omega (arith, most-left (s .page .size)))
+
+pub timings-left : (s : State) (left : ℕ) → InRange s → s .wait ≡ Timings left → (1 ≤ left) × (left ≤ 9)
+timings-left s left r e =
+    let a = wireSelected (s .page .flags) in
+    let t = wait-as s (Timings left) r e in
+    (leb-true 1 left (both-right a (leb 1 left) (both-left (a && leb 1 left) (leb left 9) t)), leb-true left 9 (both-right (a && leb 1 left) (leb left 9) t))

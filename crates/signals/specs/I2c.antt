@@ -1,7 +1,6 @@
 -- The waveforms of I2C (01, "I2C").
 use Prim.Native.Nat.{ℕ, _-_}
 use mathlib.Core.List.{List, [], _∷_, _++_}
-use lib.ListN.{replicate}
 use Rattle.wire.specs.Action.{Action, action, scl, sda}
 use Rattle.packet.specs.Register.{byteBits, zeros}
 use Rattle.signals.specs.Lines.{released, low, sampled, each}

@@ -1,8 +1,8 @@
 -- The waveforms of 1-Wire (01, "1-Wire").
 use Prim.Native.Nat.{ℕ, _-_, _*_}
 use mathlib.Core.List.{List, [], _∷_, _++_, reverse}
-use lib.ListN.{getD, take, replicate}
-use Rattle.wire.specs.Action.{Action, action, release, driveHigh, dq}
+use lib.ListN.{getD, take}
+use Rattle.wire.specs.Action.{Action, action, release, dq}
 use Rattle.packet.specs.Register.{byteBits, zeros}
 use Rattle.signals.specs.Lines.{released, low, sampled, waits, each}
 

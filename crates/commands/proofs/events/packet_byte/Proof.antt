@@ -1,0 +1,22 @@
+-- At the last byte the register is loaded, before it one more is held.
+use borrow.Author.Needs.{needs}
+use mathlib.Core.Path.{_∙_}
+use borrow.Author.Tests.{eq-eqb, ne-eqb}
+use Rattle.registers.proofs.InRange.{most-left}
+use Rattle.commands.proofs.Choices.{when, unless}
+use Rattle.commands.proofs.events.packet_byte.Statement.{statement}
+use Rattle.commands.proofs.events.packet_byte.Tie as tie
+
+pub packet-byte-spec : {M : Type 1} → statement M
+packet-byte-spec =
+    tie.close
+    (tie.spec
+    (λ c. search needs)
+    (λ c. search needs)
+    (λ c. search needs)
+    (λ c. search needs)
+    (λ c κs. search needs)
+    (λ c. rw (← most-left (c .before .before .before .before .args .s .page .size)) (c .load .ensures ∙ when _ _ _ (eq-eqb _ _ (c .before .if1 .taken))))
+    (λ c. search needs)
+    (λ c κs. search needs)
+    (λ c. rw (← most-left (c .before .before .before .before .args .s .page .size)) (c .hold .ensures ∙ unless _ _ _ (ne-eqb _ _ (c .before .if1 .left)))))

@@ -1,0 +1,20 @@
+-- At the last byte all are stored, before it one more is held.
+use borrow.Author.Needs.{needs}
+use mathlib.Core.Path.{_∙_}
+use borrow.Author.Tests.{eq-eqb, ne-eqb}
+use Rattle.commands.proofs.Choices.{when, unless}
+use Rattle.commands.proofs.events.timing_byte.Statement.{statement}
+use Rattle.commands.proofs.events.timing_byte.Tie as tie
+
+pub timing-byte-spec : {M : Type 1} → statement M
+timing-byte-spec =
+    tie.close
+    (tie.spec
+    (λ c. search needs)
+    (λ c. search needs)
+    (λ c. search needs)
+    (λ c κs. search needs)
+    (λ c. c .settling .ensures ∙ when _ _ _ (eq-eqb _ _ (c .before .before .if1 .taken)))
+    (λ c. search needs)
+    (λ c κs. search needs)
+    (λ c. c .hold .ensures ∙ unless _ _ _ (ne-eqb _ _ (c .before .if1 .left))))

@@ -1,0 +1,112 @@
+-- The common commands (01, "Registers and common commands"), a clause a command.
+use Prim.Native.Nat.{ℕ, _+_, _*_, _/_, _%_}
+use mathlib.Core.Bool.{Bool, false, cond}
+use mathlib.Core.List.{List, [], _∷_}
+use lib.Dec.{eqb}
+use Rattle.wire.specs.Action.{cs, ss, portB, portC, portD}
+use Rattle.registers.specs.Registers.{spiSelected, registerOf, withRegister, withFlags, withError, withPage, withShared}
+use Rattle.registers.specs.declared.Page.{Page}
+use Rattle.registers.specs.declared.Shared.{Shared}
+use Rattle.registers.specs.declared.State.{State}
+use Rattle.registers.specs.declared.PortRegister.the-variants as r
+use Rattle.registers.specs.declared.Operand.the-variants as o
+use Rattle.registers.specs.declared.Wait.the-variants as v
+use Rattle.signals.specs.declared.Waveform.the-variants as w
+use Rattle.commands.specs.Plans.{Plan, Sends, SendsSample, SendsEprom, SendsSerial, plan, returns, sends, performs, awaits}
+pub use Rattle.commands.specs.declared.CommonCommand.{CommonCommand}
+pub use Rattle.commands.specs.declared.CommonCommand.the-variants as k
+
+-- A BYTE'S COMMAND, by a table
+pub record Entry (A : Type 0) : Type 0 where
+  pub code : ℕ
+  pub command : A
+
+infixl 90 _is_
+abbrev pub _is_ : {A : Type 0} → ℕ → A → Entry A
+b is x = record { code = b; command = x }
+
+abbrev pub lookup : {A : Type 0} → A → ℕ → List (Entry A) → A
+lookup unknown b [] = unknown
+lookup unknown b (e ∷ es) = cond (eqb b (e .code)) (e .command) (lookup unknown b es)
+
+abbrev pub commonTable : List (Entry CommonCommand)
+commonTable =
+    0x00 is k.ResetDevice ∷ 0x01 is k.ChooseI2c ∷ 0x02 is k.ChooseSpi ∷ 0x03 is k.ChooseWire
+    ∷ 0x04 is k.ReadError ∷ 0x05 is k.SaveToEprom ∷ 0x06 is k.ReadFromEprom
+    ∷ 0x07 is k.EnableReports ∷ 0x08 is k.DisableReports ∷ 0x09 is k.EnableAutoload ∷ 0x0A is k.DisableAutoload
+    ∷ 0x0B is k.SetupPort r.Ddrb ∷ 0x0C is k.ReadPort r.Ddrb ∷ 0x0D is k.SetupPort r.Portb ∷ 0x0E is k.ReadPort r.Portb
+    ∷ 0x0F is k.SetupPort r.Ddrc ∷ 0x10 is k.ReadPort r.Ddrc ∷ 0x11 is k.SetupPort r.Portc ∷ 0x12 is k.ReadPort r.Portc
+    ∷ 0x13 is k.SetupPort r.Ddrd ∷ 0x14 is k.ReadPort r.Ddrd ∷ 0x15 is k.SetupPort r.Portd ∷ 0x16 is k.ReadPort r.Portd
+    ∷ 0x17 is k.ReadPins portB ∷ 0x18 is k.ReadPins portC ∷ 0x19 is k.ReadPins portD
+    ∷ 0x1A is k.ReadFlags ∷ 0x1B is k.ReadVersion ∷ 0x1C is k.SetIog ∷ 0x1D is k.DoExtended ∷ 0x1E is k.ReadSerial ∷ []
+
+abbrev pub commonOf : ℕ → CommonCommand
+commonOf b = lookup k.NoCommon b commonTable
+
+-- A BIT OF A REGISTER, by its weight
+abbrev pub withBit : ℕ → ℕ → ℕ
+withBit weight x = x % weight + weight + x / (weight * 2) * (weight * 2)
+
+abbrev pub withoutBit : ℕ → ℕ → ℕ
+withoutBit weight x = x % weight + x / (weight * 2) * (weight * 2)
+
+-- THE REGISTERS
+
+-- "clear common flags but bits 3 and 4"
+abbrev pub keptFlags : ℕ → ℕ
+keptFlags flags = flags / 8 % 4 * 8
+
+-- 00: "clears common flags but bits 3 and 4, SPI configuration, configured mark, size and ERROR; reinit .. Packet register,
+-- timings and EPROM stay"
+abbrev pub resetPage : Page → Page
+resetPage p = record { flags = keptFlags (p .flags); error = 0; ddrb = 0; portb = 0; ddrc = 0; portc = 0; ddrd = 0; portd = 0; config = 0; configured = false; size = 0; packet = p .packet; timings = p .timings }
+
+-- 01, 02, 03: "clear the same common flags, set their own; reinit .. SPI settings stay"
+abbrev pub chosenPage : Page → ℕ → Page
+chosenPage p flag = record { flags = keptFlags (p .flags) + flag; error = p .error; ddrb = 0; portb = 0; ddrc = 0; portc = 0; ddrd = 0; portd = 0; config = p .config; configured = p .configured; size = p .size; packet = p .packet; timings = p .timings }
+
+-- 05: "COMMON_FLAGS, DDRB, PORTB, DDRC, PORTC, DDRD, PORTD (order H), then CONFIG_SPI, PAKET_SIZE and 08 or 00 for configured, or
+-- FF FF FF if SPI isn't selected"
+abbrev pub imageTail : ℕ → ℕ → ℕ
+imageTail flags x = cond (spiSelected flags) x 0xFF
+
+abbrev pub imageMark : Bool → ℕ
+imageMark configured = cond configured 0x08 0x00
+
+abbrev pub imageOf : Page → List ℕ
+imageOf p =
+    p .flags ∷ p .ddrb ∷ p .portb ∷ p .ddrc ∷ p .portc ∷ p .ddrd ∷ p .portd
+    ∷ imageTail (p .flags) (p .config) ∷ imageTail (p .flags) (p .size) ∷ imageTail (p .flags) (imageMark (p .configured)) ∷ []
+
+abbrev pub withEprom : Shared → List ℕ → Shared
+withEprom h image = record { eprom = image; cycles = h .cycles; version = h .version; serial = h .serial }
+
+-- THE CLAUSES
+abbrev pub runCommon : State → CommonCommand → Plan
+runCommon s k.ResetDevice = performs (withPage s (resetPage (s .page))) w.Reinit
+runCommon s k.ChooseI2c = performs (withPage s (chosenPage (s .page) 1)) (w.ReinitHigh cs)
+runCommon s k.ChooseSpi = performs (withPage s (chosenPage (s .page) 2)) (w.ReinitHigh ss)
+runCommon s k.ChooseWire = performs (withPage s (chosenPage (s .page) 4)) w.Reinit
+-- "04 sends ERROR, then zeroes it"
+runCommon s k.ReadError = sends (withPage s (withError (s .page) 0)) (Sends (s .page .error))
+runCommon s k.SaveToEprom = returns (withShared s (withEprom (s .shared) (imageOf (s .page)))) 0x00
+runCommon s k.ReadFromEprom = sends s SendsEprom
+runCommon s k.EnableReports = returns (withPage s (withFlags (s .page) (withBit 8 (s .page .flags)))) 0x00
+-- 00 is returned for 08 too (H), and not sent, since reports are off after it
+runCommon s k.DisableReports = returns (withPage s (withFlags (s .page) (withoutBit 8 (s .page .flags)))) 0x00
+runCommon s k.EnableAutoload = returns (withPage s (withFlags (s .page) (withBit 16 (s .page .flags)))) 0x00
+runCommon s k.DisableAutoload = returns (withPage s (withFlags (s .page) (withoutBit 16 (s .page .flags)))) 0x00
+runCommon s (k.SetupPort x) = awaits s (v.One (o.ToPort x))
+runCommon s (k.ReadPort x) = sends s (Sends (registerOf (s .page) x))
+runCommon s (k.ReadPins line) = plan s (w.SamplePort line) SendsSample
+runCommon s k.ReadFlags = sends s (Sends (s .page .flags))
+-- one byte (H)
+runCommon s k.ReadVersion = sends s (Sends (s .shared .version))
+-- 1C: "PD4 latched 1, wait IOG cycles, PD3 latched 1"
+runCommon s k.SetIog =
+    performs (withPage s (withRegister (s .page) r.Portd (withBit 8 (withBit 16 (s .page .portd)))))
+    (w.Strobe (withBit 16 (s .page .portd)) (s .shared .cycles) (withBit 8 (withBit 16 (s .page .portd))))
+runCommon s k.DoExtended = awaits s v.Extended
+-- four bytes, low first (H)
+runCommon s k.ReadSerial = sends s SendsSerial
+runCommon s k.NoCommon = returns s 0x80

@@ -1,0 +1,9 @@
+pub mod Said
+pub mod Plans
+pub mod Common
+pub mod Extended
+pub mod I2c
+pub mod Spi
+pub mod OneWire
+pub mod Events
+pub mod Edges

@@ -1,0 +1,231 @@
+// The common commands.
+ghost use mathlib.Core.Path.{_≡_};
+ghost use Prim.Native.Nat.{_<_};
+ghost use Rattle.registers.specs.Registers.{withFlags, withPage};
+ghost use Rattle.commands.specs.Plans.{returns, performs};
+ghost use Rattle.commands.specs.Common.{commonOf, chosenPage, imageTail, imageMark, imageOf, runCommon};
+use crate::Answer;
+use crate::CommonCommand;
+use crate::Plan;
+use crate::plans::awaiting;
+use crate::plans::make;
+use crate::plans::performing;
+use crate::plans::returning;
+use crate::plans::sending;
+use registers::Operand;
+use registers::Page;
+use registers::PortRegister;
+use registers::State;
+use registers::Wait;
+use signals::Waveform;
+
+// The common command of a byte.
+pub(crate) fn decode(b: u8) -> CommonCommand
+    ensures { λ r. ⌜ r ≡ commonOf b ⌝ }
+{
+    match b {
+        0x00 => CommonCommand::ResetDevice,
+        0x01 => CommonCommand::ChooseI2c,
+        0x02 => CommonCommand::ChooseSpi,
+        0x03 => CommonCommand::ChooseWire,
+        0x04 => CommonCommand::ReadError,
+        0x05 => CommonCommand::SaveToEprom,
+        0x06 => CommonCommand::ReadFromEprom,
+        0x07 => CommonCommand::EnableReports,
+        0x08 => CommonCommand::DisableReports,
+        0x09 => CommonCommand::EnableAutoload,
+        0x0A => CommonCommand::DisableAutoload,
+        0x0B => CommonCommand::SetupPort(PortRegister::Ddrb),
+        0x0C => CommonCommand::ReadPort(PortRegister::Ddrb),
+        0x0D => CommonCommand::SetupPort(PortRegister::Portb),
+        0x0E => CommonCommand::ReadPort(PortRegister::Portb),
+        0x0F => CommonCommand::SetupPort(PortRegister::Ddrc),
+        0x10 => CommonCommand::ReadPort(PortRegister::Ddrc),
+        0x11 => CommonCommand::SetupPort(PortRegister::Portc),
+        0x12 => CommonCommand::ReadPort(PortRegister::Portc),
+        0x13 => CommonCommand::SetupPort(PortRegister::Ddrd),
+        0x14 => CommonCommand::ReadPort(PortRegister::Ddrd),
+        0x15 => CommonCommand::SetupPort(PortRegister::Portd),
+        0x16 => CommonCommand::ReadPort(PortRegister::Portd),
+        0x17 => CommonCommand::ReadPins(wire::LINE_PORT_B),
+        0x18 => CommonCommand::ReadPins(wire::LINE_PORT_C),
+        0x19 => CommonCommand::ReadPins(wire::LINE_PORT_D),
+        0x1A => CommonCommand::ReadFlags,
+        0x1B => CommonCommand::ReadVersion,
+        0x1C => CommonCommand::SetIog,
+        0x1D => CommonCommand::DoExtended,
+        0x1E => CommonCommand::ReadSerial,
+        _ => CommonCommand::NoCommon,
+    }
+}
+
+// 00: flags but reports and autoload, SPI settings, ERROR and port registers cleared.
+fn reset(mut s: State) -> Plan
+    ensures { λ r. ⌜ r ≡ runCommon s CommonCommand.ResetDevice ⌝ }
+{
+    let f = s.page.flags / 8 % 4 * 8;
+    s.page.flags = f;
+    s.page.error = 0;
+    s.page.ddrb = 0;
+    s.page.portb = 0;
+    s.page.ddrc = 0;
+    s.page.portc = 0;
+    s.page.ddrd = 0;
+    s.page.portd = 0;
+    s.page.config = 0;
+    s.page.configured = false;
+    s.page.size = 0;
+    Plan {
+        state: s,
+        wave: Waveform::Reinit,
+        answer: Answer::Returns(0x00),
+    }
+}
+
+// 01, 02, 03: an interface chosen by its flag, port registers cleared. The caller shows that the flag is one of bits 0 to 2.
+fn choose(mut s: State, flag: u8, wave: Waveform) -> Plan
+    requires { ⌜ flag < 8 ⌝ }
+    ensures { λ r. ⌜ r ≡ performs (withPage s (chosenPage (s .page) flag)) wave ⌝ }
+{
+    let f = s.page.flags / 8 % 4 * 8 + flag;
+    s.page.flags = f;
+    s.page.ddrb = 0;
+    s.page.portb = 0;
+    s.page.ddrc = 0;
+    s.page.portc = 0;
+    s.page.ddrd = 0;
+    s.page.portd = 0;
+    Plan {
+        state: s,
+        wave,
+        answer: Answer::Returns(0x00),
+    }
+}
+
+// 04: ERROR sent, then zero.
+fn read_error(mut s: State) -> Plan
+    ensures { λ r. ⌜ r ≡ runCommon s CommonCommand.ReadError ⌝ }
+{
+    let e = s.page.error;
+    s.page.error = 0;
+    Plan {
+        state: s,
+        wave: Waveform::Still,
+        answer: Answer::Sends(e),
+    }
+}
+
+// A byte of the image's tail: FF without SPI.
+fn image_tail(flags: u8, x: u8) -> u8
+    ensures { λ r. ⌜ r ≡ imageTail flags x ⌝ }
+{
+    if flags / 2 % 2 == 1 { x } else { 0xFF }
+}
+
+// The byte that says whether SPI is configured.
+fn image_mark(configured: bool) -> u8
+    ensures { λ r. ⌜ r ≡ imageMark configured ⌝ }
+{
+    if configured { 0x08 } else { 0x00 }
+}
+
+// The ten bytes that 05 stores.
+fn image(p: Page) -> [u8; 10]
+    ensures { λ r. ⌜ r ≡ imageOf p ⌝ }
+{
+    let a = image_tail(p.flags, p.config);
+    let b = image_tail(p.flags, p.size);
+    let c = image_tail(p.flags, image_mark(p.configured));
+    [
+        p.flags,
+        p.ddrb,
+        p.portb,
+        p.ddrc,
+        p.portc,
+        p.ddrd,
+        p.portd,
+        a,
+        b,
+        c,
+    ]
+}
+
+// 05: the image stored.
+fn save(mut s: State) -> Plan
+    ensures { λ r. ⌜ r ≡ runCommon s CommonCommand.SaveToEprom ⌝ }
+{
+    let p = s.page;
+    let bytes = image(p);
+    let mut h = s.shared;
+    h.eprom = bytes;
+    s.shared = h;
+    Plan {
+        state: s,
+        wave: Waveform::Still,
+        answer: Answer::Returns(0x00),
+    }
+}
+
+// 07 to 0A: the flags another, 00 returned.
+fn flag(mut s: State, flags: u8) -> Plan
+    ensures { λ r. ⌜ r ≡ returns (withPage s (withFlags (s .page) flags)) 0 ⌝ }
+{
+    s.page.flags = flags;
+    Plan {
+        state: s,
+        wave: Waveform::Still,
+        answer: Answer::Returns(0x00),
+    }
+}
+
+// 1C: PD4 latched, the IOG cycles waited, PD3 latched.
+fn set_iog(mut s: State) -> Plan
+    ensures { λ r. ⌜ r ≡ runCommon s CommonCommand.SetIog ⌝ }
+{
+    let x = s.page.portd;
+    let first = x % 16 + 16 + x / 32 * 32;
+    let last = first % 8 + 8 + first / 16 * 16;
+    s.page.portd = last;
+    let cycles = s.shared.cycles;
+    Plan {
+        state: s,
+        wave: Waveform::Strobe {
+            first,
+            cycles,
+            last,
+        },
+        answer: Answer::Returns(0x00),
+    }
+}
+
+// What a common command does.
+pub(crate) fn run(s: State, c: CommonCommand) -> Plan
+    ensures { λ r. ⌜ r ≡ runCommon s c ⌝ }
+{
+    let f = s.page.flags;
+    match c {
+        CommonCommand::ResetDevice => reset(s),
+        CommonCommand::ChooseI2c => choose(s, 1, Waveform::ReinitHigh(wire::LINE_CS)),
+        CommonCommand::ChooseSpi => choose(s, 2, Waveform::ReinitHigh(wire::LINE_SS)),
+        CommonCommand::ChooseWire => choose(s, 4, Waveform::Reinit),
+        CommonCommand::ReadError => read_error(s),
+        CommonCommand::SaveToEprom => save(s),
+        CommonCommand::ReadFromEprom => sending(s, Answer::SendsEprom),
+        CommonCommand::EnableReports => flag(s, f % 8 + 8 + f / 16 * 16),
+        CommonCommand::DisableReports => flag(s, f % 8 + f / 16 * 16),
+        CommonCommand::EnableAutoload => flag(s, f % 16 + 16 + f / 32 * 32),
+        CommonCommand::DisableAutoload => flag(s, f % 16 + f / 32 * 32),
+        CommonCommand::SetupPort(r) => awaiting(s, Wait::One(Operand::ToPort(r))),
+        CommonCommand::ReadPort(r) => {
+            let page = s.page;
+            sending(s, Answer::Sends(registers::port_register(page, r)))
+        }
+        CommonCommand::ReadPins(line) => make(s, Waveform::SamplePort(line), Answer::SendsSample),
+        CommonCommand::ReadFlags => sending(s, Answer::Sends(f)),
+        CommonCommand::ReadVersion => sending(s, Answer::Sends(s.shared.version)),
+        CommonCommand::SetIog => set_iog(s),
+        CommonCommand::DoExtended => awaiting(s, Wait::Extended),
+        CommonCommand::ReadSerial => sending(s, Answer::SendsSerial),
+        CommonCommand::NoCommon => returning(s, 0x80),
+    }
+}

@@ -1,0 +1,132 @@
+// The commands: what an event does to the registers, which waveform it makes, and what it answers.
+ghost use mathlib.Core.Path.{_≡_};
+ghost use Rattle.registers.specs.Ranges.{InRange};
+ghost use Rattle.commands.specs.Events.{planOf};
+
+mod common;
+mod events;
+mod extended;
+mod i2c;
+mod one_wire;
+mod plans;
+mod spi;
+
+use registers::Event;
+use registers::Operand;
+use registers::PortRegister;
+use registers::State;
+use signals::Waveform;
+
+// What an event answers, by name; what depends on samples or on the packet register is filled in when it is written.
+pub enum Answer {
+    Silent,
+    Returns(u8),
+    ReturnsTwice,
+    ReturnsAndSends(u8),
+    Checked(u8),
+    Sends(u8),
+    SendsSample,
+    SendsLevel,
+    SendsEprom,
+    SendsSerial,
+    SendsTimings,
+    SendsPacket,
+    SendsLow,
+    ReturnsThenLow,
+}
+
+// What an event will do: the state but for what depends on samples, the waveform and the answer.
+pub struct Plan {
+    pub state: State,
+    pub wave: Waveform,
+    pub answer: Answer,
+}
+
+// The common commands by 01's source's names; NoCommon is a byte that is none.
+pub enum CommonCommand {
+    ResetDevice,
+    ChooseI2c,
+    ChooseSpi,
+    ChooseWire,
+    ReadError,
+    SaveToEprom,
+    ReadFromEprom,
+    EnableReports,
+    DisableReports,
+    EnableAutoload,
+    DisableAutoload,
+    SetupPort(PortRegister),
+    ReadPort(PortRegister),
+    ReadPins(u8),
+    ReadFlags,
+    ReadVersion,
+    SetIog,
+    DoExtended,
+    ReadSerial,
+    NoCommon,
+}
+
+// The commands after 1D.
+pub enum ExtendedCommand {
+    PulseC5,
+    PulseD3,
+    PulseD4 { unit: u8, wait: u8 },
+    SetPortd5,
+    ClearPortd5,
+    SetDdrd5,
+    ClearDdrd5,
+    LoadCycles,
+    ReadCycles,
+    NoExtended,
+}
+
+// The commands of I2C; a read carries its answering bit.
+pub enum I2cCommand {
+    SendStart,
+    SendStop,
+    SendByte,
+    ReadByte(u8),
+    DriveCs(u8),
+    ReadCs,
+    NoI2c,
+}
+
+// The commands of SPI; a load carries whether an exchange follows.
+pub enum SpiCommand {
+    LoadConfig,
+    ReadConfig,
+    LoadSize,
+    ReadSize,
+    LoadPacket(bool),
+    ReadPacket,
+    StartExchange,
+    DriveSs(u8),
+    ReadSs,
+    ReadLow,
+    ExchangeAndRead,
+    NoSpi,
+}
+
+// The commands of 1-Wire; a send carries which operand it waits for.
+pub enum WireCommand {
+    SendReset,
+    SendWire(Operand),
+    ReadWire,
+    ReadWireBit,
+    LoadTimings,
+    ReadTimings,
+    ReleaseDq,
+    PulsePb7 { unit: u8, wait: u16 },
+    NoWire,
+}
+
+// What an event will do, before any sample is read. The caller shows that the state breaks no range.
+pub fn plan_event(s: State, e: Event) -> Plan
+    requires { ⌜ InRange s ⌝ }
+    ensures { λ p. ⌜ p ≡ planOf s e ⌝ }
+{
+    match e {
+        Event::Byte(x) => events::byte(s, x),
+        Event::Faulty(f) => plans::returning(s, registers::fault_code(f)),
+    }
+}
