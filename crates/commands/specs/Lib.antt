@@ -6,4 +6,6 @@ pub mod I2c
 pub mod Spi
 pub mod OneWire
 pub mod Events
+pub mod Replies
+pub mod Promises
 pub mod Edges

@@ -30,3 +30,11 @@ codesOf [] = []
 codesOf (returned k ∷ xs) = k ∷ codesOf xs
 codesOf (sent x ∷ xs) = codesOf xs
 codesOf (returnedAndSent k ∷ xs) = k ∷ codesOf xs
+
+-- REJECTED (01's term): "one that returns 80, or 40", whatever ERROR held
+unfoldable pub anyRejecting : List ℕ → Bool
+anyRejecting [] = false
+anyRejecting (k ∷ ks) = eqb k 0x80 || eqb k 0x40 || anyRejecting ks
+
+abbrev pub isRejected : List Said → Bool
+isRejected xs = anyRejecting (codesOf xs)

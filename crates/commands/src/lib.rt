@@ -9,6 +9,8 @@ mod extended;
 mod i2c;
 mod one_wire;
 mod plans;
+pub mod replies;
+pub mod sending;
 mod spi;
 
 use registers::Event;
@@ -40,6 +42,25 @@ pub struct Plan {
     pub state: State,
     pub wave: Waveform,
     pub answer: Answer,
+}
+
+// The reply bytes of an event, by name.
+pub enum Reply {
+    Empty,
+    One(u8),
+    Two(u8, u8),
+    Eprom,
+    Serial,
+    Timings,
+    Packet,
+    Low,
+    OneThenLow(u8),
+}
+
+// The state that an event leaves, and what it sends.
+pub struct Settled {
+    pub state: State,
+    pub reply: Reply,
 }
 
 // The common commands by 01's source's names; NoCommon is a byte that is none.

@@ -5,7 +5,7 @@ use Prim.Native.Nat.{ℕ, zero, suc, _+_, _-_, _≤_, _<_, min}
 use native.Mathlib.Nat.{le-refl}
 use native.Mathlib.Decide.{decLe}
 use native.Mathlib.Omega.{arith}
-use lib.ListN.{length, getD, take, set, length-reverse}
+use lib.ListN.{length, getD, take, set, length-reverse, length-take}
 use lib.Seq.{take-suc, take-suc-set, take-length, take-all}
 use Rattle.packet.specs.Packet.{fromHeld, packetBytes, lowBytes}
 
@@ -45,3 +45,7 @@ low-bytes k n m r low l e h =
     go : Dec (packetBytes n ≤ k) → take (min (packetBytes n) k) (reverse r) ≡ take (packetBytes n) (reverse r)
     go (yes d) = let s : min (packetBytes n) k ≡ packetBytes n = omega arith in rw s
     go (no d) = let s : min (packetBytes n) k ≡ k = omega arith in rw s (take-all k (reverse r) (omega (arith, length-reverse r)) ∙ sym (take-all (packetBytes n) (reverse r) (omega (arith, length-reverse r))))
+
+-- how many they are
+pub length-low : (k n : ℕ) (r : List ℕ) → length r ≡ k → min (packetBytes n) k ≡ length (lowBytes n r)
+length-low k n r e = sym (length-take (packetBytes n) (reverse r) ∙ ap (min (packetBytes n)) (length-reverse r ∙ e))

@@ -171,6 +171,13 @@ fn low_count(n: u8) -> usize
     count
 }
 
+// How many bytes `put_low` writes.
+pub fn low_size(r: Register, n: u8) -> usize
+    ensures { λ k. ⌜ (k ≡ length (lowBytes n r)) × (k ≤ registerBytes) ⌝ }
+{
+    low_count(n)
+}
+
 // Writes the register's low bytes that hold n bits, lowest first, at a place of the unused part of a lent buffer, and
 // answers the place after them. The caller shows that they fit there.
 pub fn put_low(out: &mut [u8], at: usize, r: Register, n: u8) -> usize
