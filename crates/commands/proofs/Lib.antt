@@ -2,4 +2,6 @@
 pub mod Lookup
 pub mod Choices
 pub mod Sent
+pub mod KeptParts
+pub mod Keeps
 pub mod Edges

@@ -13,8 +13,8 @@ pub use Rattle.commands.specs.declared.WireCommand.the-variants as k
 
 abbrev pub wireTable : List (Entry WireCommand)
 wireTable =
-    0x60 is k.SendReset ∷ 0x61 is k.SendWire o.ToWire ∷ 0x62 is k.ReadWire ∷ 0x63 is k.SendWire o.ToWireBit ∷ 0x64 is k.ReadWireBit
-    ∷ 0x65 is k.LoadTimings ∷ 0x66 is k.ReadTimings ∷ 0x67 is k.SendWire o.ToWireStrong ∷ 0x68 is k.ReleaseDq
+    0x60 is k.SendReset ∷ 0x61 is k.SendWire ∷ 0x62 is k.ReadWire ∷ 0x63 is k.SendWireBit ∷ 0x64 is k.ReadWireBit
+    ∷ 0x65 is k.LoadTimings ∷ 0x66 is k.ReadTimings ∷ 0x67 is k.SendWireStrong ∷ 0x68 is k.ReleaseDq
     ∷ 0x69 is k.PulsePb7 waitMicroseconds 580 ∷ 0x6A is k.PulsePb7 waitMilliseconds 110 ∷ []
 
 abbrev pub wireOf : ℕ → WireCommand
@@ -23,7 +23,9 @@ wireOf b = lookup k.NoWire b wireTable
 abbrev pub runWire : State → WireCommand → Plan
 -- "low returns 00, else 60"
 runWire s k.SendReset = plan s w.ResetWire (Checked 0x60)
-runWire s (k.SendWire x) = awaits s (v.One x)
+runWire s k.SendWire = awaits s (v.One o.ToWire)
+runWire s k.SendWireBit = awaits s (v.One o.ToWireBit)
+runWire s k.SendWireStrong = awaits s (v.One o.ToWireStrong)
 runWire s k.ReadWire = plan s w.ReadWire SendsSample
 -- "64 one bit as 0F/8F"
 runWire s k.ReadWireBit = plan s w.ReadWireBit SendsLevel

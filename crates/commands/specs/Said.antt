@@ -1,8 +1,9 @@
 -- What an event says (01, "Registers and common commands"): "A returned code is stored in ERROR and, if REPORTS_EN is set after
 -- the command, also sent. Commands that send data return none and leave ERROR."
 use Prim.Native.Nat.{ℕ}
-use mathlib.Core.Bool.{Bool, cond}
+use mathlib.Core.Bool.{Bool, false, cond, _||_}
 use mathlib.Core.List.{List, [], _∷_}
+use lib.Dec.{eqb}
 
 -- a code returned (01's term), a byte sent, or a code that is returned and sent whatever REPORTS_EN is
 pub data Said : Type 0 where

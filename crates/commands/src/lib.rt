@@ -14,7 +14,6 @@ pub mod sending;
 mod spi;
 
 use registers::Event;
-use registers::Operand;
 use registers::PortRegister;
 use registers::State;
 use signals::Waveform;
@@ -128,10 +127,12 @@ pub enum SpiCommand {
     NoSpi,
 }
 
-// The commands of 1-Wire; a send carries which operand it waits for.
+// The commands of 1-Wire.
 pub enum WireCommand {
     SendReset,
-    SendWire(Operand),
+    SendWire,
+    SendWireBit,
+    SendWireStrong,
     ReadWire,
     ReadWireBit,
     LoadTimings,

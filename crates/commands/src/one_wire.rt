@@ -20,13 +20,13 @@ pub(crate) fn decode(b: u8) -> WireCommand
 {
     match b {
         0x60 => WireCommand::SendReset,
-        0x61 => WireCommand::SendWire(Operand::ToWire),
+        0x61 => WireCommand::SendWire,
         0x62 => WireCommand::ReadWire,
-        0x63 => WireCommand::SendWire(Operand::ToWireBit),
+        0x63 => WireCommand::SendWireBit,
         0x64 => WireCommand::ReadWireBit,
         0x65 => WireCommand::LoadTimings,
         0x66 => WireCommand::ReadTimings,
-        0x67 => WireCommand::SendWire(Operand::ToWireStrong),
+        0x67 => WireCommand::SendWireStrong,
         0x68 => WireCommand::ReleaseDq,
         0x69 => WireCommand::PulsePb7 {
             unit: wire::VERB_WAIT_MICROSECONDS,
@@ -46,7 +46,9 @@ pub(crate) fn run(s: State, c: WireCommand) -> Plan
 {
     match c {
         WireCommand::SendReset => make(s, Waveform::ResetWire, Answer::Checked(0x60)),
-        WireCommand::SendWire(o) => awaiting(s, Wait::One(o)),
+        WireCommand::SendWire => awaiting(s, Wait::One(Operand::ToWire)),
+        WireCommand::SendWireBit => awaiting(s, Wait::One(Operand::ToWireBit)),
+        WireCommand::SendWireStrong => awaiting(s, Wait::One(Operand::ToWireStrong)),
         WireCommand::ReadWire => make(s, Waveform::ReadWire, Answer::SendsSample),
         WireCommand::ReadWireBit => make(s, Waveform::ReadWireBit, Answer::SendsLevel),
         WireCommand::LoadTimings => awaiting(s, Wait::Timings { left: 9 }),

@@ -44,18 +44,18 @@ module _ (p : Page) where
       record {
         one-interface = leb-true _ _ (both-left a b e2);
         flag-bits = ltb-true _ _ (both-right a b e2);
-        size = ltb-true _ _ (both-right (a && b) c e3);
-        config = leb-true _ _ (both-right (a && b && c) d e4);
-        ddrc = ltb-true _ _ (both-right (a && b && c && d) f e5);
-        portc = ltb-true _ _ (both-right (a && b && c && d && f) g e6);
-        ddrd = eqb-true _ _ (both-right (a && b && c && d && f && g) h e7);
-        portd = eqb-true _ _ (both-right (a && b && c && d && f && g && h) i e);
+        size-register = ltb-true _ _ (both-right (a && b) c e3);
+        configuration = leb-true _ _ (both-right (a && b && c) d e4);
+        c-direction = ltb-true _ _ (both-right (a && b && c && d) f e5);
+        c-latch = ltb-true _ _ (both-right (a && b && c && d && f) g e6);
+        d-direction = eqb-true _ _ (both-right (a && b && c && d && f && g) h e7);
+        d-latch = eqb-true _ _ (both-right (a && b && c && d && f && g && h) i e);
       }
 
   tested : PageInRange p → pageFits p ≡ true
   tested r =
-      both (both (both (both (both (both (both (le-leb _ _ (r .one-interface)) (lt-ltb _ _ (r .flag-bits))) (lt-ltb _ _ (r .size))) (le-leb _ _ (r .config))) (lt-ltb _ _ (r .ddrc))) (lt-ltb _ _ (r .portc))) (eq-eqb _ _ (r .ddrd)))
-      (eq-eqb _ _ (r .portd))
+      both (both (both (both (both (both (both (le-leb _ _ (r .one-interface)) (lt-ltb _ _ (r .flag-bits))) (lt-ltb _ _ (r .size-register))) (le-leb _ _ (r .configuration))) (lt-ltb _ _ (r .c-direction))) (lt-ltb _ _ (r .c-latch))) (eq-eqb _ _ (r .d-direction)))
+      (eq-eqb _ _ (r .d-latch))
 
 pub range-test : (s : State) → RangeTest s
 range-test s =
@@ -66,7 +66,7 @@ range-test s =
 
 -- WHAT A WAIT'S FACT SAYS
 
-wait-as : (s : State) (w : Wait) → InRange s → s .wait ≡ w → waitFits w (s .page .flags) (s .page .configured) (bitsIn (s .page)) ≡ true
+pub wait-as : (s : State) (w : Wait) → InRange s → s .wait ≡ w → waitFits w (s .page .flags) (s .page .configured) (bitsIn (s .page)) ≡ true
 wait-as s w r e = subst (λ (v : Wait). waitFits v (s .page .flags) (s .page .configured) (bitsIn (s .page)) ≡ true) e (r .wait)
 
 pub packet-left : (s : State) (left : ℕ) (exchange : Bool) → InRange s → s .wait ≡ Packet left exchange → (s .page .size < width) × (1 ≤ left) × (left ≤ s .page .size / 8 + 1)
@@ -76,7 +76,7 @@ packet-left s left exchange r e =
     let most = packetBytes (bitsIn (s .page)) in
     let t = wait-as s (Packet left exchange) r e in
     let u = leb-true left most (both-right (a && b && leb 1 left) (leb left most) t) in
-    (r .page .size, leb-true 1 left (both-right (a && b) (leb 1 left) (both-left (a && b && leb 1 left) (leb left most) t)), omega (arith, most-left (s .page .size)))
+    (r .page .size-register, leb-true 1 left (both-right (a && b) (leb 1 left) (both-left (a && b && leb 1 left) (leb left most) t)), omega (arith, most-left (s .page .size)))
 
 pub timings-left : (s : State) (left : ℕ) → InRange s → s .wait ≡ Timings left → (1 ≤ left) × (left ≤ 9)
 timings-left s left r e =

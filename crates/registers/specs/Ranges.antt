@@ -39,16 +39,19 @@ pageFits p =
 abbrev pub stateFits : State → Bool
 stateFits s = pageFits (s .page) && waitFits (s .wait) (s .page .flags) (s .page .configured) (bitsIn (s .page))
 
--- THE FACTS, by name
-pub record PageInRange (p : Page) : Type 0 where
-  pub one-interface : selectedCount (p .flags) ≤ 1
-  pub flag-bits : p .flags < 32
-  pub size : p .size < width
-  pub config : p .config ≤ 7
-  pub ddrc : p .ddrc < 64
-  pub portc : p .portc < 64
-  pub ddrd : p .ddrd % 4 ≡ 0
-  pub portd : p .portd % 4 ≡ 0
+-- THE FACTS, by name, over the registers that have a range
+pub record Ranges (flags size config ddrc portc ddrd portd : ℕ) : Type 0 where
+  pub one-interface : selectedCount flags ≤ 1
+  pub flag-bits : flags < 32
+  pub size-register : size < width
+  pub configuration : config ≤ 7
+  pub c-direction : ddrc < 64
+  pub c-latch : portc < 64
+  pub d-direction : ddrd % 4 ≡ 0
+  pub d-latch : portd % 4 ≡ 0
+
+abbrev pub PageInRange : Page → Type 0
+PageInRange p = Ranges (p .flags) (p .size) (p .config) (p .ddrc) (p .portc) (p .ddrd) (p .portd)
 
 pub record InRange (s : State) : Type 0 where
   pub page : PageInRange (s .page)

@@ -1,0 +1,120 @@
+-- What keeps the ranges: the registers' rules, and how a state is put together. Assumes nothing.
+use Prim.Native.Nat.{ℕ, _+_, _*_, _/_, _%_, _<_, _≤_}
+use mathlib.Core.Path.{_≡_, refl, sym, ap, _∙_}
+use mathlib.Core.Bool.{Bool, true, false, cond}
+use native.Mathlib.Omega.{arith}
+use Rattle.registers.specs.Registers.{registerOf, withRegister, protected, withFlags, withPage, waiting, settled, bitsIn}
+use Rattle.registers.specs.Ranges.{selectedCount, waitFits, Ranges, PageInRange, InRange}
+use Rattle.registers.specs.declared.Page.{Page}
+use Rattle.registers.specs.declared.State.{State}
+use Rattle.registers.specs.declared.PortRegister.{PortRegister}
+use Rattle.registers.specs.declared.PortRegister.the-variants as r
+use Rattle.registers.specs.declared.Wait.{Wait}
+use Rattle.registers.specs.declared.Wait.the-variants as v
+use Rattle.commands.specs.Plans.{Plan}
+use Rattle.commands.specs.Common.{withBit, withoutBit, keptFlags}
+
+-- PORT REGISTERS
+
+abbrev pub Fits : PortRegister → ℕ → Type 0
+Fits r.Ddrb x = Unit {0}
+Fits r.Portb x = Unit {0}
+Fits r.Ddrc x = x < 64
+Fits r.Portc x = x < 64
+Fits r.Ddrd x = x % 4 ≡ 0
+Fits r.Portd x = x % 4 ≡ 0
+
+pub page-register : (p : Page) (x : PortRegister) (n : ℕ) → PageInRange p → Fits x n → PageInRange (withRegister p x n)
+page-register p r.Ddrb n q f = q
+page-register p r.Portb n q f = q
+page-register p r.Ddrc n q f = record { one-interface = q .one-interface; flag-bits = q .flag-bits; size-register = q .size-register; configuration = q .configuration; c-direction = f; c-latch = q .c-latch; d-direction = q .d-direction; d-latch = q .d-latch }
+page-register p r.Portc n q f = record { one-interface = q .one-interface; flag-bits = q .flag-bits; size-register = q .size-register; configuration = q .configuration; c-direction = q .c-direction; c-latch = f; d-direction = q .d-direction; d-latch = q .d-latch }
+page-register p r.Ddrd n q f = record { one-interface = q .one-interface; flag-bits = q .flag-bits; size-register = q .size-register; configuration = q .configuration; c-direction = q .c-direction; c-latch = q .c-latch; d-direction = f; d-latch = q .d-latch }
+page-register p r.Portd n q f = record { one-interface = q .one-interface; flag-bits = q .flag-bits; size-register = q .size-register; configuration = q .configuration; c-direction = q .c-direction; c-latch = q .c-latch; d-direction = q .d-direction; d-latch = f }
+
+keep-c : (old new : ℕ) → old < 64 → new % 64 + old / 64 * 64 < 64
+keep-c old new h = omega arith
+
+keep-d : (old new : ℕ) → old % 4 ≡ 0 → (old % 4 + new / 4 % 8 * 4 + old / 32 % 2 * 32 + new / 64 * 64) % 4 ≡ 0
+keep-d old new h = omega arith
+
+-- an operand leaves a port register in its range
+pub protected-fits : (p : Page) (x : PortRegister) (n : ℕ) → PageInRange p → Fits x (protected x (registerOf p x) n)
+protected-fits p r.Ddrb n q = tt
+protected-fits p r.Portb n q = tt
+protected-fits p r.Ddrc n q = keep-c (p .ddrc) n (q .c-direction)
+protected-fits p r.Portc n q = keep-c (p .portc) n (q .c-latch)
+protected-fits p r.Ddrd n q = keep-d (p .ddrd) n (q .d-direction)
+protected-fits p r.Portd n q = keep-d (p .portd) n (q .d-latch)
+
+-- bits 3, 4 and 5 set and cleared leave bits 0 and 1
+pub d3-on : (x : ℕ) → x % 4 ≡ 0 → (withBit 8 x) % 4 ≡ 0
+d3-on x h = omega arith
+
+pub d3-off : (x : ℕ) → x % 4 ≡ 0 → (withoutBit 8 x) % 4 ≡ 0
+d3-off x h = omega arith
+
+pub d4-on : (x : ℕ) → x % 4 ≡ 0 → (withBit 16 x) % 4 ≡ 0
+d4-on x h = omega arith
+
+pub d4-off : (x : ℕ) → x % 4 ≡ 0 → (withoutBit 16 x) % 4 ≡ 0
+d4-off x h = omega arith
+
+pub d5-on : (x : ℕ) → x % 4 ≡ 0 → (withBit 32 x) % 4 ≡ 0
+d5-on x h = omega arith
+
+pub d5-off : (x : ℕ) → x % 4 ≡ 0 → (withoutBit 32 x) % 4 ≡ 0
+d5-off x h = omega arith
+
+pub c5-on : (x : ℕ) → x < 64 → withBit 32 x < 64
+c5-on x h = omega arith
+
+pub c5-off : (x : ℕ) → x < 64 → withoutBit 32 x < 64
+c5-off x h = omega arith
+
+-- FLAGS
+
+-- the low three bits decide how many interfaces are selected
+first : (f : ℕ) → f % 2 ≡ f % 8 % 2
+first f = omega arith
+
+half : (f : ℕ) → f / 2 % 2 ≡ f % 8 / 2 % 2
+half f = let h : f / 2 ≡ 4 * (f / 8) + f % 8 / 2 = omega arith in rw h (omega arith)
+
+quarter : (f : ℕ) → f / 4 % 2 ≡ f % 8 / 4 % 2
+quarter f = let h : f / 4 ≡ 2 * (f / 8) + f % 8 / 4 = omega arith in rw h (omega arith)
+
+low-three : (f : ℕ) → selectedCount f ≡ selectedCount (f % 8)
+low-three f = λ i. first f i + half f i + quarter f i
+
+-- an interface's flag beside those that are kept
+pub flag-count : (f flag : ℕ) → flag < 8 → selectedCount (keptFlags f + flag) ≡ selectedCount flag
+flag-count f flag h =
+    let e : (keptFlags f + flag) % 8 ≡ flag = omega arith in
+    low-three (keptFlags f + flag) ∙ ap selectedCount e
+
+pub page-flags : (p : Page) (f : ℕ) → PageInRange p → f < 32 → f % 8 ≡ p .flags % 8 → PageInRange (withFlags p f)
+page-flags p f q h e =
+    let c : selectedCount f ≡ selectedCount (p .flags) = low-three f ∙ ap selectedCount e ∙ low-back in
+    record { one-interface = rw c (q .one-interface); flag-bits = h; size-register = q .size-register; configuration = q .configuration; c-direction = q .c-direction; c-latch = q .c-latch; d-direction = q .d-direction; d-latch = q .d-latch }
+  where
+    low-back : selectedCount (p .flags % 8) ≡ selectedCount (p .flags)
+    low-back = sym (low-three (p .flags))
+
+-- STATES
+
+pub idle-page : (s : State) (p : Page) → s .wait ≡ v.Nothing → PageInRange p → InRange (withPage s p)
+idle-page s p e q = record { page = q; wait = ap (λ (w : Wait). waitFits w (p .flags) (p .configured) (bitsIn p)) e }
+
+pub waits : (s : State) (w : Wait) → PageInRange (s .page) → waitFits w (s .page .flags) (s .page .configured) (bitsIn (s .page)) ≡ true → InRange (waiting s w)
+waits s w q e = record { page = q; wait = e }
+
+pub settles : (s : State) (p : Page) → PageInRange p → InRange (settled s p)
+settles s p q = record { page = q; wait = refl }
+
+unfoldable pub Kept : Plan → Type 0
+Kept p = InRange (p .state)
+
+pub kept-cond : (t : Bool) (p q : Plan) → (t ≡ true → Kept p) → (t ≡ false → Kept q) → Kept (cond t p q)
+kept-cond true p q f g = f refl
+kept-cond false p q f g = g refl
