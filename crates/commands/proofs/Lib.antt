@@ -4,4 +4,5 @@ pub mod Choices
 pub mod Sent
 pub mod KeptParts
 pub mod Keeps
+pub mod Rejects
 pub mod Edges
