@@ -1,13 +1,13 @@
 -- Every event keeps the ranges. Assumes nothing.
-use Prim.Native.Nat.{ℕ, _+_, _-_, _*_, _/_, _%_, _<_, _≤_}
-use mathlib.Core.Path.{_≡_, refl, sym}
+use Prim.Native.Nat.{ℕ, _-_, _%_, _<_, _≤_}
+use mathlib.Core.Path.{_≡_, refl}
 use mathlib.Core.Bool.{Bool, true, false, _&&_}
 use native.Mathlib.Omega.{arith}
 use borrow.Author.Tests.{le-leb, eqb-false}
 use lib.Dec.{eqb, leb, ltb}
 use Rattle.packet.specs.Packet.{width, packetBytes, sizeRegister}
-use Rattle.registers.specs.Registers.{i2cSelected, spiSelected, wireSelected, bitsIn, withPage, configuredAs, withSize}
-use Rattle.registers.specs.Ranges.{selectedCount, waitFits, Ranges, PageInRange, InRange}
+use Rattle.registers.specs.Registers.{i2cSelected, spiSelected, wireSelected, bitsIn, configuredAs, withSize}
+use Rattle.registers.specs.Ranges.{selectedCount, waitFits, PageInRange, InRange}
 use Rattle.registers.specs.declared.Page.{Page}
 use Rattle.registers.specs.declared.State.{State}
 use Rattle.registers.specs.declared.PortRegister.the-variants as r
@@ -19,8 +19,8 @@ use Rattle.registers.specs.declared.Event.{Event}
 use Rattle.registers.specs.declared.Event.the-variants as e
 use Rattle.registers.proofs.InRange.{most-left, both, both-left, packet-left, timings-left, wait-as}
 use mathlib.Core.List.{List}
-use Rattle.commands.specs.Plans.{Plan, carriedOut, returns}
-use Rattle.commands.specs.Common.{CommonCommand, withBit, withoutBit, resetPage, chosenPage, keptFlags, commonOf, runCommon}
+use Rattle.commands.specs.Plans.{carriedOut}
+use Rattle.commands.specs.Common.{CommonCommand, resetPage, chosenPage, commonOf, runCommon}
 use Rattle.commands.specs.Extended.{ExtendedCommand, extendedOf, runExtended}
 use Rattle.commands.specs.I2c.{I2cCommand, i2cOf, runI2c}
 use Rattle.commands.specs.Spi.{SpiCommand, spiOf, runSpi}
@@ -167,11 +167,11 @@ module _ (s : State) (n : InRange s) where
       let t = wait-as s (v.Packet left exchange) n e in
       kept-cond (eqb left 1) _ _ (λ _. loaded-keeps _ exchange)
       (λ f.
-          let ne = eqb-false left 1 f in
-          let a = spiSelected (s .page .flags) && s .page .configured in
-          let most = packetBytes (bitsIn (s .page)) in
-          let ab = both-left a (leb 1 left) (both-left (a && leb 1 left) (leb left most) t) in
-          record { page = q; wait = both (both ab (le-leb 1 (left - 1) (below-one left (m .1) ne))) (le-leb (left - 1) most (omega (arith, m .2, most-left (s .page .size)))) })
+      let ne = eqb-false left 1 f in
+      let a = spiSelected (s .page .flags) && s .page .configured in
+      let most = packetBytes (bitsIn (s .page)) in
+      let ab = both-left a (leb 1 left) (both-left (a && leb 1 left) (leb left most) t) in
+      record { page = q; wait = both (both ab (le-leb 1 (left - 1) (below-one left (m .1) ne))) (le-leb (left - 1) most (omega (arith, m .2, most-left (s .page .size)))) })
 
   timings-keeps : (left : ℕ) (b : ℕ) → s .wait ≡ v.Timings left → Kept (timingsPlan s left b)
   unfolding q Kept
@@ -180,10 +180,10 @@ module _ (s : State) (n : InRange s) where
       let t = wait-as s (v.Timings left) n e in
       kept-cond (eqb left 1) _ _ (λ _. settles s _ q)
       (λ f.
-          let ne = eqb-false left 1 f in
-          let a = wireSelected (s .page .flags) in
-          let on = both-left a (leb 1 left) (both-left (a && leb 1 left) (leb left 9) t) in
-          record { page = q; wait = both (both on (le-leb 1 (left - 1) (below-one left (m .0) ne))) (le-leb (left - 1) 9 (omega (arith, m .1))) })
+      let ne = eqb-false left 1 f in
+      let a = wireSelected (s .page .flags) in
+      let on = both-left a (leb 1 left) (both-left (a && leb 1 left) (leb left 9) t) in
+      record { page = q; wait = both (both on (le-leb 1 (left - 1) (below-one left (m .0) ne))) (le-leb (left - 1) 9 (omega (arith, m .1))) })
 
   byte-keeps : (a : Wait) (b : ℕ) → s .wait ≡ a → Kept (bytePlan s a b)
   byte-keeps v.Nothing b e = command-keeps e b

@@ -1,10 +1,10 @@
 -- What keeps the ranges: the registers' rules, and how a state is put together. Assumes nothing.
-use Prim.Native.Nat.{ℕ, _+_, _*_, _/_, _%_, _<_, _≤_}
+use Prim.Native.Nat.{ℕ, _+_, _*_, _/_, _%_, _<_}
 use mathlib.Core.Path.{_≡_, refl, sym, ap, _∙_}
 use mathlib.Core.Bool.{Bool, true, false, cond}
 use native.Mathlib.Omega.{arith}
 use Rattle.registers.specs.Registers.{registerOf, withRegister, protected, withFlags, withPage, waiting, settled, bitsIn}
-use Rattle.registers.specs.Ranges.{selectedCount, waitFits, Ranges, PageInRange, InRange}
+use Rattle.registers.specs.Ranges.{selectedCount, waitFits, PageInRange, InRange}
 use Rattle.registers.specs.declared.Page.{Page}
 use Rattle.registers.specs.declared.State.{State}
 use Rattle.registers.specs.declared.PortRegister.{PortRegister}

@@ -4,5 +4,7 @@ pub mod Choices
 pub mod Sent
 pub mod KeptParts
 pub mod Keeps
+pub mod Clauses
 pub mod Rejects
+pub mod Bounds
 pub mod Edges

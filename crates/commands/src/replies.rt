@@ -6,7 +6,6 @@ ghost use mathlib.Core.List.{[], _∷_, map};
 ghost use Rattle.commands.specs.Said.{returned, sent, returnedAndSent};
 ghost use Rattle.commands.specs.Plans.{saidOf};
 ghost use Rattle.commands.specs.Replies.{replyBytes, settlement, settlementOf};
-
 use crate::Answer;
 use crate::Reply;
 use crate::Settled;

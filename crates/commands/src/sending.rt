@@ -5,7 +5,6 @@ ghost use lib.ListN.{length};
 ghost use Rattle.packet.specs.Packet.{width};
 ghost use Rattle.wire.specs.Buffer.{Written};
 ghost use Rattle.commands.specs.Replies.{replyBytes};
-
 use crate::Reply;
 use registers::State;
 
