@@ -40,7 +40,7 @@ reset-keeps : (p : Page) → PageInRange p → PageInRange (resetPage p)
 reset-keeps p q = record { one-interface = omega arith; flag-bits = omega arith; size-register = omega arith; configuration = omega arith; c-direction = omega arith; c-latch = omega arith; d-direction = refl; d-latch = refl }
 
 chosen-keeps : (p : Page) (flag : ℕ) → PageInRange p → flag < 8 → selectedCount flag ≤ 1 → PageInRange (chosenPage p flag)
-chosen-keeps p flag q h c = record { one-interface = rw (flag-count (p .flags) flag h) c; flag-bits = omega arith; size-register = q .size-register; configuration = q .configuration; c-direction = omega arith; c-latch = omega arith; d-direction = refl; d-latch = refl }
+chosen-keeps p flag q h c = record { one-interface = rw (flag-count (p .flags) flag h) c; flag-bits = omega arith; size-register = omega (arith, q .size-register); configuration = omega (arith, q .configuration); c-direction = omega arith; c-latch = omega arith; d-direction = refl; d-latch = refl }
 
 -- one of more than one is left
 below-one : (left : ℕ) → 1 ≤ left → (left ≡ 1 → ⊥) → 1 ≤ left - 1

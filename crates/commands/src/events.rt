@@ -1,17 +1,19 @@
 // What a byte does, by what is waited for.
 ghost use mathlib.Core.Path.{_≡_};
-ghost use Prim.Native.Nat.{_/_, _+_, _≤_, _<_};
+ghost use Prim.Native.Nat.{_≤_, _<_};
 ghost use Rattle.packet.specs.Packet.{width};
-ghost use Rattle.registers.specs.Registers.{holding, settled};
+ghost use Rattle.registers.specs.Registers.{settled};
 ghost use Rattle.registers.specs.Ranges.{InRange};
 ghost use Rattle.commands.specs.Plans.{plan};
-ghost use Rattle.commands.specs.Events.{commandPlan, portPlan, cyclesPlan, operandPlan, loadedPlan, packetPlan, timingsPlan, bytePlan};
+ghost use Rattle.commands.specs.Events.{commandPlan, portPlan, cyclesPlan, operandPlan, timingsPlan, bytePlan};
 use crate::Answer;
 use crate::Plan;
 use crate::common;
 use crate::extended;
 use crate::i2c;
 use crate::one_wire;
+use crate::packets;
+use crate::plans::hold;
 use crate::plans::returning;
 use crate::plans::settling;
 use crate::plans::storing;
@@ -138,57 +140,6 @@ fn operand(s: State, o: Operand, x: u8) -> Plan
     }
 }
 
-// A byte held, and more waited for.
-fn hold(s: State, wait: Wait, held: [u8; registers::HELD]) -> Plan
-    ensures { λ p. ⌜ p ≡ plan (holding s wait held) Waveform.Still Answer.Silent ⌝ }
-{
-    let page = s.page;
-    let shared = s.shared;
-    Plan {
-        state: State {
-            page,
-            shared,
-            wait,
-            held,
-        },
-        wave: Waveform::Still,
-        answer: Answer::Silent,
-    }
-}
-
-// The last packet byte: the packet register loaded, and for 4C exchanged.
-fn load(s: State, held: [u8; registers::HELD], exchange: bool) -> Plan
-    requires { ⌜ s .page .size < width ⌝ }
-    ensures { λ p. ⌜ p ≡ loadedPlan s held exchange ⌝ }
-{
-    let mut page = s.page;
-    let high = page.config / 4 % 2 == 1;
-    let r = packet::load_packet(&held, page.size + 1, high);
-    page.packet = r;
-    if exchange {
-        return settling(s, page, Waveform::Exchange, Answer::ReturnsTwice);
-    }
-    settling(s, page, Waveform::Still, Answer::Returns(0x00))
-}
-
-// A packet byte, with so many to come, itself among them.
-fn packet_byte(s: State, left: u8, exchange: bool, x: u8) -> Plan
-    requires { ⌜ (s .page .size < width) × (1 ≤ left) × (left ≤ s .page .size / 8 + 1) ⌝ }
-    ensures { λ p. ⌜ p ≡ packetPlan s left exchange x ⌝ }
-{
-    let i = (s.page.size / 8 + 1 - left) as usize;
-    let mut held = s.held;
-    held[i] = x;
-    if left == 1 {
-        return load(s, held, exchange);
-    }
-    let wait = Wait::Packet {
-        left: left - 1,
-        exchange,
-    };
-    hold(s, wait, held)
-}
-
 // A timing byte, with so many to come, itself among them; all are stored at the last.
 fn timing_byte(s: State, left: u8, x: u8) -> Plan
     requires { ⌜ (1 ≤ left) × (left ≤ 9) ⌝ }
@@ -215,7 +166,7 @@ pub(crate) fn byte(s: State, x: u8) -> Plan
         Wait::Nothing => command(s, x),
         Wait::One(o) => operand(s, o, x),
         Wait::Extended => extended::run(s, extended::decode(x)),
-        Wait::Packet { left, exchange } => packet_byte(s, left, exchange, x),
+        Wait::Packet { left, exchange } => packets::packet_byte(s, left, exchange, x),
         Wait::Timings { left } => timing_byte(s, left, x),
     }
 }

@@ -8,6 +8,7 @@ mod events;
 mod extended;
 mod i2c;
 mod one_wire;
+mod packets;
 mod plans;
 pub mod replies;
 pub mod sending;

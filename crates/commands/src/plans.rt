@@ -1,7 +1,7 @@
 // The plans that the clauses are made of.
 ghost use mathlib.Core.Path.{_≡_};
 ghost use Rattle.commands.specs.Plans.{plan, returns, sends, performs, awaits};
-ghost use Rattle.registers.specs.Registers.{settled, withRegister};
+ghost use Rattle.registers.specs.Registers.{holding, settled, withRegister};
 use crate::Answer;
 use crate::Plan;
 use registers::Page;
@@ -95,4 +95,22 @@ pub(crate) fn storing(s: State, r: PortRegister, x: u8, wave: Waveform, answer: 
     let old = s.page;
     let page = registers::store_register(old, r, x);
     settling(s, page, wave, answer)
+}
+
+// A byte held, and more waited for.
+pub(crate) fn hold(s: State, wait: Wait, held: [u8; registers::HELD]) -> Plan
+    ensures { λ p. ⌜ p ≡ plan (holding s wait held) Waveform.Still Answer.Silent ⌝ }
+{
+    let page = s.page;
+    let shared = s.shared;
+    Plan {
+        state: State {
+            page,
+            shared,
+            wait,
+            held,
+        },
+        wave: Waveform::Still,
+        answer: Answer::Silent,
+    }
 }

@@ -84,10 +84,10 @@ fn store_then_low(mut s: State, x: u8) -> Settled
 fn check(s: State, x: u8, code: u8) -> Settled
     ensures { λ r. ⌜ settlement (r .state) (replyBytes (r .state) (r .reply)) ≡ settlementOf s (saidOf s x (Answer.Checked code)) ⌝ }
 {
-    if x == 0 {
-        return store(s, 0x00);
+    if x != 0 {
+        return store(s, code);
     }
-    store(s, code)
+    store(s, 0x00)
 }
 
 // 0F for a low sample, 8F for a high one.

@@ -14,7 +14,7 @@ use Rattle.packet.proofs.Bytes.{length-byte, length-bits}
 
 -- A BIT OF A REGISTER
 
-byte-at : (b j : ℕ) → j < 8 → getD (byteBits b) j 0 ≡ b / 2 ^ (7 - j) % 2
+pub byte-at : (b j : ℕ) → j < 8 → getD (byteBits b) j 0 ≡ b / 2 ^ (7 - j) % 2
 unfolding byteBits
 byte-at b zero h = refl
 byte-at b (suc zero) h = refl

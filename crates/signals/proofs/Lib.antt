@@ -1,1 +1,5 @@
--- Laws that the proofs of this crate and of the crates above cite.
+-- Laws that the proofs of this crate cite.
+pub mod Rows
+pub mod Exchanges
+pub mod Slots
+pub mod Levels

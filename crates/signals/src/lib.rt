@@ -1,4 +1,24 @@
 // The waveforms: what an event does on the lines, with the samples that it reads.
+ghost use mathlib.Core.Path.{_≡_};
+ghost use Prim.Native.Nat.{_*_, _≤_, _<_};
+ghost use lib.ListN.{length};
+ghost use Rattle.wire.specs.Action.{bytesOf};
+ghost use Rattle.wire.specs.Buffer.{Written};
+ghost use Rattle.wire.specs.Sample.{byteAt};
+ghost use Rattle.packet.specs.Register.{register};
+ghost use Rattle.packet.specs.Packet.{width, registerBytes, received};
+ghost use Rattle.registers.specs.Registers.{highFirst, bitsIn};
+ghost use Rattle.signals.specs.Lines.{levels, byteOf};
+ghost use Rattle.signals.specs.Spi.{exchange};
+ghost use Rattle.signals.specs.Waveforms.{waveOf, senseOf};
+use packet::Register;
+use registers::Page;
+
+mod i2c;
+mod lines;
+mod one_wire;
+mod readings;
+mod spi;
 
 // A waveform by name; a port's value is its whole new register.
 pub enum Waveform {
@@ -51,4 +71,132 @@ pub struct Sensed {
     pub bytes: usize,
     pub byte: u8,
     pub packet: packet::Register,
+}
+
+// What so many actions without a sample give.
+fn quiet(kept: Register, actions: u8) -> Sensed
+    ensures { λ r. ⌜ r ≡ record { used = 0; bytes = 4 * actions; byte = 0; packet = kept } ⌝ }
+{
+    Sensed {
+        used: 0,
+        bytes: wire::ACTION_BYTES * actions as usize,
+        byte: 0,
+        packet: kept,
+    }
+}
+
+// What so many actions with one sample give: the sample as it stands.
+fn once(kept: Register, actions: u8, samples: &[u8], from: usize) -> Sensed
+    ensures { λ r. ⌜ r ≡ record { used = 1; bytes = 4 * actions; byte = byteAt (now (samples .entry)) from; packet = kept } ⌝ }
+{
+    Sensed {
+        used: 1,
+        bytes: wire::ACTION_BYTES * actions as usize,
+        byte: wire::byte_at(samples, from),
+        packet: kept,
+    }
+}
+
+// What so many actions with eight samples give: a byte, the first sample its highest bit or its lowest.
+fn eight(kept: Register, actions: u8, samples: &[u8], from: usize, high: bool) -> Sensed
+    requires { ⌜ from ≤ length (now samples) ⌝ }
+    ensures { λ r. ⌜ r ≡ record { used = 8; bytes = 4 * actions; byte = byteOf high (levels (now (samples .entry)) from 8); packet = kept } ⌝ }
+{
+    Sensed {
+        used: 8,
+        bytes: wire::ACTION_BYTES * actions as usize,
+        byte: readings::byte_of(samples, from, high),
+        packet: kept,
+    }
+}
+
+// What an exchange gives: the packet register with the N levels received.
+fn exchanged(page: Page, samples: &[u8], from: usize) -> Sensed
+    requires { ⌜ (page .size < width) × (from ≤ length (now samples)) ⌝ }
+    ensures { λ r. ⌜ r ≡ record { used = bitsIn page; bytes = 4 * length (exchange page); byte = 0; packet = register registerBytes (received width (highFirst (page .config)) (levels (now (samples .entry)) from (bitsIn page))) } ⌝ }
+{
+    let n = page.size + 1;
+    let high = page.config / 4 % 2 == 1;
+    let used = n as usize;
+    let received = readings::receive(samples, from, n, high);
+    Sensed {
+        used,
+        bytes: wire::ACTION_BYTES * (1 + 4 * used),
+        byte: 0,
+        packet: received,
+    }
+}
+
+// What a waveform's samples give and how many bytes its actions take, read before anything is written.
+// The caller shows that the size register is in range and that the mark is not past the samples' end.
+pub fn sense(page: Page, wave: Waveform, samples: &[u8], from: usize) -> Sensed
+    requires { ⌜ (page .size < width) × (from ≤ length (now samples)) ⌝ }
+    ensures { λ r. ⌜ r ≡ senseOf (waveOf page wave (now (samples .entry)) from) ⌝ }
+{
+    let kept = page.packet;
+    match wave {
+        Waveform::Still => quiet(kept, 0),
+        Waveform::Reinit => quiet(kept, 6),
+        Waveform::ReinitHigh(_) => quiet(kept, 7),
+        Waveform::Line { .. } => quiet(kept, 1),
+        Waveform::Port { .. } => quiet(kept, 1),
+        Waveform::Strobe { .. } => quiet(kept, 3),
+        Waveform::PortPulse { .. } => quiet(kept, 3),
+        Waveform::Pb7Pulse { .. } => quiet(kept, 3),
+        Waveform::SampleLine(_) => once(kept, 1, samples, from),
+        Waveform::SamplePort(_) => once(kept, 1, samples, from),
+        Waveform::Start => quiet(kept, 4),
+        Waveform::Stop => quiet(kept, 3),
+        Waveform::WriteI2c(_) => once(kept, 28, samples, from),
+        Waveform::ReadI2c(_) => eight(kept, 35, samples, from, true),
+        Waveform::Exchange => exchanged(page, samples, from),
+        Waveform::ResetWire => once(kept, 6, samples, from),
+        Waveform::WriteWire(_) => quiet(kept, 48),
+        Waveform::WriteWireBit(_) => quiet(kept, 6),
+        Waveform::WriteWireStrong(_) => quiet(kept, 48),
+        Waveform::ReadWire => eight(kept, 48, samples, from, false),
+        Waveform::ReadWireBit => once(kept, 6, samples, from),
+    }
+}
+
+// Writes a waveform's actions at the start of the unused part of a lent buffer, and answers how many bytes they are.
+// The caller shows that the size register is in range and that they fit.
+pub fn write(out: &mut [u8], page: Page, wave: Waveform, samples: &[u8], from: usize) -> usize
+    requires { ⌜ (page .size < width) × (length (bytesOf ((waveOf page wave (now samples) from) .actions)) ≤ length (now out)) ⌝ }
+    ensures { λ n. ⌜ Written (now (out .entry)) 0 (bytesOf ((waveOf page wave (now (samples .entry)) from) .actions)) (now (out .exit)) n ⌝ }
+{
+    let ts = page.timings;
+    match wave {
+        Waveform::Still => 0,
+        Waveform::Reinit => lines::put_reinit(out),
+        Waveform::ReinitHigh(line) => lines::put_reinit_high(out, line),
+        Waveform::Line { verb, line } => wire::put_action(out, 0, verb, line, 0),
+        Waveform::Port { verb, line, value } => wire::put_action(out, 0, verb, line, value as u16),
+        Waveform::Strobe {
+            first,
+            cycles,
+            last,
+        } => lines::put_strobe(out, first, cycles, last),
+        Waveform::PortPulse {
+            line,
+            first,
+            unit,
+            wait,
+            last,
+        } => lines::put_pulse(out, line, first, unit, wait, last),
+        Waveform::Pb7Pulse { unit, wait } => lines::put_pb7_pulse(out, unit, wait),
+        Waveform::SampleLine(line) => wire::put_action(out, 0, wire::VERB_SAMPLE_LINE, line, 0),
+        Waveform::SamplePort(line) => wire::put_action(out, 0, wire::VERB_SAMPLE_PORT, line, 0),
+        Waveform::Start => i2c::start(out),
+        Waveform::Stop => i2c::stop(out),
+        Waveform::WriteI2c(x) => i2c::write(out, x),
+        Waveform::ReadI2c(answer) => i2c::read(out, answer),
+        Waveform::Exchange => spi::put_exchange(out, page),
+        Waveform::ResetWire => one_wire::reset(out, ts),
+        Waveform::WriteWire(x) => one_wire::write(out, ts, 8, wire::VERB_RELEASE, x),
+        Waveform::WriteWireBit(x) => one_wire::write(out, ts, 1, wire::VERB_RELEASE, x),
+        Waveform::WriteWireStrong(x) => one_wire::write(out, ts, 8, wire::VERB_DRIVE_HIGH, x),
+        Waveform::ReadWire => one_wire::read(out, ts, 8),
+        Waveform::ReadWireBit => one_wire::read(out, ts, 1),
+    }
 }

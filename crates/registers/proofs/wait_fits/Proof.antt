@@ -18,5 +18,5 @@ wait-fits-spec =
     (λ c. search needs)
     (λ c. rw (c .before .before .w .given .1) (c .operand-fits .ensures))
     (λ c. search needs)
-    (λ c. rw (c .before .w2 .given .1, most-left (c .before .before .before .args .size)))
+    (λ c. rw (c .before .w2 .given .1, ← most-left (c .before .before .before .args .size)))
     (λ c. rw (c .before .w3 .given .1)))

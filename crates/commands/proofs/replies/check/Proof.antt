@@ -9,6 +9,6 @@ check-spec =
     tie.close
     (tie.spec
     (λ c κs. search needs)
-    (λ c. rw (eq-eqb _ _ (c .before .if1 .taken)) (c .store .ensures))
+    (λ c. rw (ne-eqb _ _ (c .before .if1 .taken)) (c .store .ensures))
     (λ c κs. search needs)
-    (λ c. rw (ne-eqb _ _ (c .before .if1 .left)) (c .store2 .ensures)))
+    (λ c. rw (eq-eqb _ _ (c .before .if1 .left)) (c .store2 .ensures)))

@@ -1,7 +1,7 @@
 -- The register is the packet's own load.
 use borrow.Author.Needs.{needs}
-use Rattle.commands.proofs.events.load.Statement.{statement}
-use Rattle.commands.proofs.events.load.Tie as tie
+use Rattle.commands.proofs.packets.load.Statement.{statement}
+use Rattle.commands.proofs.packets.load.Tie as tie
 
 pub load-spec : {M : Type 1} → statement M
 load-spec =

@@ -4,8 +4,8 @@ use mathlib.Core.Path.{_∙_}
 use borrow.Author.Tests.{eq-eqb, ne-eqb}
 use Rattle.registers.proofs.InRange.{most-left}
 use Rattle.commands.proofs.Choices.{when, unless}
-use Rattle.commands.proofs.events.packet_byte.Statement.{statement}
-use Rattle.commands.proofs.events.packet_byte.Tie as tie
+use Rattle.commands.proofs.packets.packet_byte.Statement.{statement}
+use Rattle.commands.proofs.packets.packet_byte.Tie as tie
 
 pub packet-byte-spec : {M : Type 1} → statement M
 packet-byte-spec =

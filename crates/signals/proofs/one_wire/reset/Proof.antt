@@ -1,0 +1,22 @@
+-- The slot of the group's waits.
+use borrow.Author.Needs.{needs}
+use mathlib.Core.Path.{ap}
+use Rattle.wire.specs.Action.{bytesOf}
+use Rattle.signals.specs.OneWire.{Waits, sampleSlot}
+use Rattle.signals.proofs.Rows.{same-written}
+use Rattle.signals.proofs.one_wire.reset.Statement.{statement}
+use Rattle.signals.proofs.one_wire.reset.Tie as tie
+
+pub reset-spec : {M : Type 1} → statement M
+reset-spec =
+    tie.close
+    (tie.spec
+    (λ c. search needs)
+    (λ c. search needs)
+    (λ c. search needs)
+    (λ c κs. search needs)
+    (λ c κs. search needs)
+    (λ c. search needs)
+    (λ c.
+    let p = c .before .before in
+    same-written (ap (λ (w : Waits). bytesOf (sampleSlot w)) (p .before .before .group-waits .ensures)) (p .put-slot .ensures)))

@@ -1,0 +1,39 @@
+-- By the phase, one action after another.
+use borrow.Author.Needs.{needs}
+use Rattle.signals.specs.Spi.{spiBit}
+use Rattle.signals.proofs.Rows.{then}
+use Rattle.signals.proofs.spi.put_bit.Statement.{statement}
+use Rattle.signals.proofs.spi.put_bit.Tie as tie
+
+pub put-bit-spec : {M : Type 1} → statement M
+unfolding spiBit
+put-bit-spec =
+    tie.close
+    (tie.spec
+    (λ c. search needs)
+    (λ c. search needs)
+    (λ c. search needs)
+    (λ c κs. search needs)
+    (λ c. search needs)
+    (λ c κs. search needs)
+    (λ c κs. search needs)
+    (λ c κs. search needs)
+    (λ c. search needs)
+    (λ c.
+    let p = c .before .before in
+    let q = p .before .before .before .before in
+    let r = q .before .before .before .before in
+    let s = r .before .before .before .before in
+    rw (s .before .before .if1 .taken) (then (then (then (s .put-action .ensures) (r .put-action2 .ensures)) (q .put-action3 .ensures)) (p .put-action4 .ensures)))
+    (λ c. search needs)
+    (λ c κs. search needs)
+    (λ c κs. search needs)
+    (λ c κs. search needs)
+    (λ c κs. search needs)
+    (λ c. search needs)
+    (λ c.
+    let p = c .before .before in
+    let q = p .before .before .before .before in
+    let r = q .before .before .before .before in
+    let s = r .before .before .before .before in
+    rw (s .before .before .if1 .left) (then (then (then (s .put-action5 .ensures) (r .put-action6 .ensures)) (q .put-action7 .ensures)) (p .put-action8 .ensures))))

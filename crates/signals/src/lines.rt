@@ -1,0 +1,87 @@
+// Rows of actions on ports and single lines.
+ghost use mathlib.Core.Path.{_≡_};
+ghost use Prim.Native.Nat.{_+_, _-_, _≤_};
+ghost use mathlib.Core.List.{[], _∷_, _++_};
+ghost use lib.ListN.{length};
+ghost use Rattle.wire.specs.Action.{action, bytesOf, setDirection, setLatch, waitCycles, portD, pb7, noLine};
+ghost use Rattle.wire.specs.Buffer.{Written};
+ghost use Rattle.signals.specs.Lines.{low, high, reinit};
+
+const LOW: u8 = wire::VERB_DRIVE_LOW;
+
+const HIGH: u8 = wire::VERB_DRIVE_HIGH;
+
+const LATCH: u8 = wire::VERB_LATCH;
+
+// The verb that puts a bit on a line that is released or driven low.
+pub(crate) fn verb_for(bit: u8) -> u8
+    ensures { λ r. ⌜ r ≡ 1 - bit ⌝ }
+{
+    if bit == 0 {
+        return LOW;
+    }
+    wire::VERB_RELEASE
+}
+
+// A port's direction and then its latch, both 0.
+fn put_port(out: &mut [u8], at: usize, port: u8) -> usize
+    requires { ⌜ at + 8 ≤ length (now out) ⌝ }
+    ensures { λ next. ⌜ Written (now (out .entry)) at (bytesOf (action setDirection port 0 ∷ action setLatch port 0 ∷ [])) (now (out .exit)) next ⌝ }
+{
+    let a = wire::put_action(out, at, wire::VERB_DIRECTION, port, 0);
+    wire::put_action(out, a, LATCH, port, 0)
+}
+
+// Reinit: direction then latch, for B, C, D.
+pub(crate) fn put_reinit(out: &mut [u8]) -> usize
+    requires { ⌜ length (bytesOf reinit) ≤ length (now out) ⌝ }
+    ensures { λ n. ⌜ Written (now (out .entry)) 0 (bytesOf reinit) (now (out .exit)) n ⌝ }
+{
+    let c = put_port(out, 0, wire::LINE_PORT_B);
+    let d = put_port(out, c, wire::LINE_PORT_C);
+    put_port(out, d, wire::LINE_PORT_D)
+}
+
+// Reinit, and then a line driven high.
+pub(crate) fn put_reinit_high(out: &mut [u8], line: u8) -> usize
+    requires { ⌜ length (bytesOf (reinit ++ (high line ∷ []))) ≤ length (now out) ⌝ }
+    ensures { λ n. ⌜ Written (now (out .entry)) 0 (bytesOf (reinit ++ (high line ∷ []))) (now (out .exit)) n ⌝ }
+{
+    let at = put_reinit(out);
+    wire::put_action(out, at, HIGH, line, 0)
+}
+
+// A latch written, a wait, and the latch written again.
+pub(crate) fn put_pulse(out: &mut [u8], line: u8, first: u8, unit: u8, wait: u8, last: u8) -> usize
+    requires { ⌜ 12 ≤ length (now out) ⌝ }
+    ensures { λ n. ⌜ Written (now (out .entry)) 0 (bytesOf (action setLatch line first ∷ action unit noLine wait ∷ action setLatch line last ∷ [])) (now (out .exit)) n ⌝ }
+{
+    let a = wire::put_action(out, 0, LATCH, line, first as u16);
+    let b = wire::put_action(out, a, unit, wire::NO_LINE, wait as u16);
+    wire::put_action(out, b, LATCH, line, last as u16)
+}
+
+// A latch of D written, a wait in cycles, and the latch written again.
+pub(crate) fn put_strobe(out: &mut [u8], first: u8, cycles: u8, last: u8) -> usize
+    requires { ⌜ 12 ≤ length (now out) ⌝ }
+    ensures { λ n. ⌜ Written (now (out .entry)) 0 (bytesOf (action setLatch portD first ∷ action waitCycles noLine cycles ∷ action setLatch portD last ∷ [])) (now (out .exit)) n ⌝ }
+{
+    put_pulse(
+        out,
+        wire::LINE_PORT_D,
+        first,
+        wire::VERB_WAIT_CYCLES,
+        cycles,
+        last,
+    )
+}
+
+// PB7 driven low, a wait, and PB7 driven high.
+pub(crate) fn put_pb7_pulse(out: &mut [u8], unit: u8, wait: u16) -> usize
+    requires { ⌜ 12 ≤ length (now out) ⌝ }
+    ensures { λ n. ⌜ Written (now (out .entry)) 0 (bytesOf (low pb7 ∷ action unit noLine wait ∷ high pb7 ∷ [])) (now (out .exit)) n ⌝ }
+{
+    let a = wire::put_action(out, 0, LOW, wire::LINE_PB7, 0);
+    let b = wire::put_action(out, a, unit, wire::NO_LINE, wait);
+    wire::put_action(out, b, HIGH, wire::LINE_PB7, 0)
+}

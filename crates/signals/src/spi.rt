@@ -1,0 +1,74 @@
+// The waveform of SPI.
+ghost use Prim.Native.Nat.{_+_, _≤_, _<_};
+ghost use lib.ListN.{length};
+ghost use Rattle.wire.specs.Action.{bytesOf};
+ghost use Rattle.wire.specs.Buffer.{Written};
+ghost use Rattle.packet.specs.Packet.{width, sent};
+ghost use Rattle.signals.specs.Lines.{each};
+ghost use Rattle.signals.specs.Spi.{spiBit, exchange};
+use packet::Register;
+use registers::Page;
+
+const SAMPLE: u8 = wire::VERB_SAMPLE_LINE;
+
+const SCK: u8 = wire::LINE_SCK;
+
+const MOSI: u8 = wire::LINE_MOSI;
+
+const MISO: u8 = wire::LINE_MISO;
+
+// One bit exchanged: with CPHA 0 the sample stands before the clock's return, with CPHA 1 after it.
+fn put_bit(out: &mut [u8], at: usize, polarity: u8, phase: bool, bit: u8) -> usize
+    requires { ⌜ (at + 16 ≤ length (now out)) × ((polarity < 2) × (bit < 2)) ⌝ }
+    ensures { λ next. ⌜ Written (now (out .entry)) at (bytesOf (spiBit polarity phase bit)) (now (out .exit)) next ⌝ }
+{
+    let away = 1 + (1 - polarity);
+    let back = 1 + polarity;
+    if phase {
+        let a = wire::put_action(out, at, away, SCK, 0);
+        let b = wire::put_action(out, a, 1 + bit, MOSI, 0);
+        let c = wire::put_action(out, b, back, SCK, 0);
+        return wire::put_action(out, c, SAMPLE, MISO, 0);
+    }
+    let d = wire::put_action(out, at, 1 + bit, MOSI, 0);
+    let e = wire::put_action(out, d, away, SCK, 0);
+    let f = wire::put_action(out, e, SAMPLE, MISO, 0);
+    wire::put_action(out, f, back, SCK, 0)
+}
+
+// N bits exchanged.
+fn put_bits(
+    out: &mut [u8],
+    at: usize,
+    r: Register,
+    n: u8,
+    high: bool,
+    polarity: u8,
+    phase: bool,
+) -> usize
+    requires { ⌜ (n ≤ width) × ((polarity < 2) × (at + length (bytesOf (each (spiBit polarity phase) (sent n high r))) ≤ length (now out))) ⌝ }
+    ensures { λ next. ⌜ Written (now (out .entry)) at (bytesOf (each (spiBit polarity phase) (sent n high r))) (now (out .exit)) next ⌝ }
+{
+    let mut next = at;
+    let mut i: u8 = 0;
+    while i < n {
+        let bit = packet::bit_to_send(r, i, high);
+        next = put_bit(out, next, polarity, phase, bit);
+        i += 1;
+    }
+    next
+}
+
+// An exchange of N bits: SCK to CPOL, then the bits.
+pub(crate) fn put_exchange(out: &mut [u8], page: Page) -> usize
+    requires { ⌜ (page .size < width) × (length (bytesOf (exchange page)) ≤ length (now out)) ⌝ }
+    ensures { λ n. ⌜ Written (now (out .entry)) 0 (bytesOf (exchange page)) (now (out .exit)) n ⌝ }
+{
+    let r = page.packet;
+    let n = page.size + 1;
+    let phase = page.config % 2 == 1;
+    let polarity = page.config / 2 % 2;
+    let high = page.config / 4 % 2 == 1;
+    let at = wire::put_action(out, 0, 1 + polarity, SCK, 0);
+    put_bits(out, at, r, n, high, polarity, phase)
+}
