@@ -1,4 +1,4 @@
--- How many reply bytes an event sends, and that they are few. Assumes nothing.
+-- How many reply bytes an event sends, and that its replies and actions are few. Assumes nothing.
 use Prim.Native.Nat.{ℕ, _+_, _≤_, _<_, min}
 use mathlib.Core.Path.{_≡_, refl, sym, ap, _∙_, subst}
 use mathlib.Core.Bool.{Bool, true, false, cond, false≢true}
@@ -14,13 +14,16 @@ use Rattle.registers.specs.declared.Page.{Page}
 use Rattle.registers.specs.declared.State.{State}
 use Rattle.registers.specs.declared.Event.{Event}
 use Rattle.signals.specs.Waveforms.{waveOf}
+use Rattle.signals.proofs.Counts.{wave-few}
 use Rattle.signals.specs.declared.Waveform.{Waveform}
 use Rattle.signals.specs.declared.Waveform.the-variants as w
-use Rattle.commands.specs.Said.{Said, returned, sent, repliesOf}
-use Rattle.commands.specs.Plans.{Plan, Answer, Silent, Returns, ReturnsTwice, ReturnsAndSends, Checked, Sends, SendsSample, SendsLevel, SendsEprom, SendsSerial, SendsTimings, SendsPacket, SendsLow, ReturnsThenLow, returns, sends, saidOf, received, carriedOut}
+use Rattle.commands.specs.Said.{returned, sent, repliesOf}
+use Rattle.commands.specs.Plans.{Plan, Answer, Silent, Returns, ReturnsTwice, ReturnsAndSends, Checked, Sends, SendsSample, SendsLevel, SendsEprom, SendsSerial, SendsTimings, SendsPacket, SendsLow, ReturnsThenLow, saidOf, received, carriedOut}
 use Rattle.commands.specs.Events.{planOf, effectOf}
-use Rattle.commands.specs.Promises.{mostReplies, Sized, replyCount, FewReplies}
+use Rattle.commands.specs.Promises.{mostReplies, Sized, replyCount, FewActions, FewReplies}
 use Rattle.commands.proofs.Sent.{replies-sent}
+use Rattle.commands.proofs.KeptParts.{Kept}
+use Rattle.commands.proofs.Keeps.{plan-keeps}
 use Rattle.commands.proofs.Clauses.{short, Clause, fine, long, coded, coded-always, plan-clause}
 
 one-or-none : (on : Bool) (k : ℕ) → length (cond on (k ∷ []) []) ≡ cond on 1 0
@@ -153,3 +156,9 @@ event-replies s a ss m n z =
     let v = waveOf (b .state .page) (b .wave) ss m in
     plan-few s n z (reportsOn (b .state .page .flags)) (v .byte) b (v .packet) (plan-clause s a)
     (λ q. wave-packet (b .state .page) (b .wave) ss m (ap (λ (t : State). length (t .page .packet)) q ∙ z .packet))
+
+pub event-actions : (s : State) (a : Event) (ss : List ℕ) (m : ℕ) → FewActions s a ss m
+unfolding effectOf carriedOut Kept
+event-actions s a ss m n =
+    let b = planOf s a in
+    wave-few (b .state .page) (b .wave) ss m (plan-keeps s n a .page .size-register)

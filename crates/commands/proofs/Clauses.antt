@@ -178,6 +178,6 @@ module _ (s : State) where
 
   pub plan-clause : (a : Event) → Clause s (planOf s a)
   plan-clause (e.Byte b) = byte-clause (s .wait) b
-  plan-clause (e.Faulty f.Frame) = fine refl refl
-  plan-clause (e.Faulty f.Overrun) = fine refl refl
-  plan-clause (e.Faulty f.Parity) = fine refl refl
+  plan-clause (e.Fault f.Frame) = fine refl refl
+  plan-clause (e.Fault f.Overrun) = fine refl refl
+  plan-clause (e.Fault f.Parity) = fine refl refl

@@ -192,10 +192,10 @@ module _ (s : State) (n : InRange s) where
   byte-keeps (v.Packet left exchange) b e = packet-keeps left exchange b e
   byte-keeps (v.Timings left) b e = timings-keeps left b e
 
-  plan-keeps : (a : Event) → Kept (planOf s a)
+  pub plan-keeps : (a : Event) → Kept (planOf s a)
   unfolding Kept
   plan-keeps (e.Byte b) = byte-keeps (s .wait) b refl
-  plan-keeps (e.Faulty f) = n
+  plan-keeps (e.Fault f) = n
 
 -- ERROR and a received packet are in no range
 pub event-keeps : (s : State) (a : Event) (ss : List ℕ) (m : ℕ) → Keeps s a ss m

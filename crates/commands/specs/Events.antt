@@ -90,7 +90,7 @@ bytePlan s (v.Timings left) x = timingsPlan s left x
 -- AN EVENT; "A fault returns its code; the byte it came with is lost, any wait stays."
 abbrev pub planOf : State → Event → Plan
 planOf s (e.Byte x) = bytePlan s (s .wait) x
-planOf s (e.Faulty f) = returns s (faultCode f)
+planOf s (e.Fault f) = returns s (faultCode f)
 
 -- with the samples from place m on
 unfoldable pub effectOf : State → Event → List ℕ → ℕ → Effect

@@ -150,6 +150,6 @@ pub fn plan_event(s: State, e: Event) -> Plan
 {
     match e {
         Event::Byte(x) => events::byte(s, x),
-        Event::Faulty(f) => plans::returning(s, registers::fault_code(f)),
+        Event::Fault(f) => plans::returning(s, registers::fault_code(f)),
     }
 }

@@ -16,8 +16,6 @@ pub use Rattle.registers.specs.declared.Wait.{Wait}
 pub use Rattle.registers.specs.declared.Wait.the-variants.{Nothing, One, Extended, Packet, Timings}
 pub use Rattle.registers.specs.declared.Fault.{Fault}
 pub use Rattle.registers.specs.declared.Fault.the-variants.{Frame, Overrun, Parity}
-pub use Rattle.registers.specs.declared.Event.{Event}
-pub use Rattle.registers.specs.declared.Event.the-variants.{Byte, Faulty}
 
 -- COMMON_FLAGS: "bit 0 I2C, 1 SPI, 2 1-Wire, 3 REPORTS_EN, 4 AUTOLOAD_EN"
 abbrev pub i2cSelected : ℕ → Bool

@@ -86,7 +86,7 @@ pub enum Fault {
 // 01's term: an event is a received byte, or a line fault.
 pub enum Event {
     Byte(u8),
-    Faulty(Fault),
+    Fault(Fault),
 }
 
 // The device code of a line fault.

@@ -2,12 +2,13 @@
 use mathlib.Core.Path.{_≡_, refl, ap, _∙_}
 use mathlib.Core.Bool.{Bool, true, false}
 use mathlib.Core.List.{List, [], _∷_}
-use Prim.Native.Nat.{ℕ, _+_, _*_, _<_}
+use Prim.Native.Nat.{ℕ, _+_, _*_, _<_, _≤_}
 use native.Mathlib.Omega.{arith}
-use lib.ListN.{length, length-append}
+use lib.ListN.{length, length-append, length-take}
 use Rattle.wire.specs.Action.{bytesOf}
 use Rattle.wire.proofs.Actions.{bytes-length}
-use Rattle.packet.specs.Packet.{width, registerBytes, sent}
+use Rattle.packet.specs.Register.{bits}
+use Rattle.packet.specs.Packet.{width, registerBytes, order, sent}
 use Rattle.packet.proofs.Places.{length-sent}
 use Rattle.registers.specs.Registers.{polarityOf, phaseOf, highFirst, bitsIn}
 use Rattle.registers.specs.declared.Page.{Page}
@@ -35,3 +36,9 @@ exchange-length p h l =
     let c = p .config in
     let xs = sent (bitsIn p) (highFirst c) (p .packet) in
     omega (arith, four-each (polarityOf c) (phaseOf c) xs, length-sent (bitsIn p) (highFirst c) (p .packet) (omega arith))
+
+pub exchange-most : (p : Page) → length (exchange p) ≤ 1 + 4 * bitsIn p
+unfolding exchange
+exchange-most p =
+    let xs = sent (bitsIn p) (highFirst (p .config)) (p .packet) in
+    omega (arith, four-each (polarityOf (p .config)) (phaseOf (p .config)) xs, length-take (bitsIn p) (order (highFirst (p .config)) (bits (p .packet))))

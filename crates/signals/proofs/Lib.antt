@@ -3,3 +3,4 @@ pub mod Rows
 pub mod Exchanges
 pub mod Slots
 pub mod Levels
+pub mod Counts
