@@ -218,7 +218,7 @@ pub(crate) fn run(s: State, c: CommonCommand) -> Plan
         CommonCommand::SetupPort(r) => awaiting(s, Wait::One(Operand::ToPort(r))),
         CommonCommand::ReadPort(r) => {
             let page = s.page;
-            sending(s, Answer::Sends(registers::port_register(page, r)))
+            sending(s, Answer::Sends(registers::ports::port_register(page, r)))
         }
         CommonCommand::ReadPins(line) => make(s, Waveform::SamplePort(line), Answer::SendsSample),
         CommonCommand::ReadFlags => sending(s, Answer::Sends(f)),

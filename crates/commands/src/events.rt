@@ -56,9 +56,9 @@ fn write_port(s: State, r: PortRegister, x: u8) -> Plan
     ensures { λ p. ⌜ p ≡ portPlan s r x ⌝ }
 {
     let page = s.page;
-    let value = registers::protect(r, registers::port_register(page, r), x);
-    let verb = registers::port_verb(r);
-    let line = registers::port_line(r);
+    let value = registers::ports::protect(r, registers::ports::port_register(page, r), x);
+    let verb = registers::ports::port_verb(r);
+    let line = registers::ports::port_line(r);
     storing(
         s,
         r,

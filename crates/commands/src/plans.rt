@@ -93,7 +93,7 @@ pub(crate) fn storing(s: State, r: PortRegister, x: u8, wave: Waveform, answer: 
     ensures { λ p. ⌜ p ≡ plan (settled s (withRegister (s .page) r x)) wave answer ⌝ }
 {
     let old = s.page;
-    let page = registers::store_register(old, r, x);
+    let page = registers::ports::store_register(old, r, x);
     settling(s, page, wave, answer)
 }
 

@@ -1,7 +1,7 @@
 -- Case by case; the ports' rules are one for direction and latch.
 use borrow.Author.Needs.{needs}
-use Rattle.registers.proofs.protect.Statement.{statement}
-use Rattle.registers.proofs.protect.Tie as tie
+use Rattle.registers.proofs.ports.protect.Statement.{statement}
+use Rattle.registers.proofs.ports.protect.Tie as tie
 
 pub protect-spec : {M : Type 1} → statement M
 protect-spec =

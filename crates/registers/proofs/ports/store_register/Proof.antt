@@ -1,7 +1,7 @@
 -- Case by case, one field another.
 use borrow.Author.Needs.{needs}
-use Rattle.registers.proofs.store_register.Statement.{statement}
-use Rattle.registers.proofs.store_register.Tie as tie
+use Rattle.registers.proofs.ports.store_register.Statement.{statement}
+use Rattle.registers.proofs.ports.store_register.Tie as tie
 
 pub store-register-spec : {M : Type 1} → statement M
 store-register-spec =
