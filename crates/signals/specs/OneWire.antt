@@ -4,6 +4,7 @@ use mathlib.Core.List.{List, [], _∷_, _++_, reverse}
 use lib.ListN.{getD, take}
 use Rattle.wire.specs.Action.{Action, action, release, dq}
 use Rattle.packet.specs.Register.{byteBits, zeros}
+use Rattle.signals.specs.declared.one_wire.Waits.{Waits}
 use Rattle.signals.specs.Lines.{released, low, sampled, waits, each}
 
 -- "Timings: reset, write bit, read bit, three bytes each; defaults 86 C4 CC, BC BF F9, BC BF C7"
@@ -12,11 +13,6 @@ defaultTimings = 0x86 ∷ 0xC4 ∷ 0xCC ∷ 0xBC ∷ 0xBF ∷ 0xF9 ∷ 0xBC ∷ 
 
 -- the three waits of a group, in µs: "For a group (a, b, c) the waits are b − a, c − b, 255 − c, a negative one counting 0 (H),
 -- in 8 µs for the first group, 1 µs for the others"
-pub record Waits : Type 0 where
-  pub first : ℕ
-  pub second : ℕ
-  pub third : ℕ
-
 abbrev pub groupWaits : ℕ → ℕ → ℕ → ℕ → Waits
 groupWaits unit a b c = record { first = unit * (b - a); second = unit * (c - b); third = unit * (255 - c) }
 

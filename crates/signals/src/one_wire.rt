@@ -14,8 +14,8 @@ const RELEASE: u8 = wire::VERB_RELEASE;
 
 const SAMPLE: u8 = wire::VERB_SAMPLE_LINE;
 
-// The three waits of a group, in µs.
-struct SlotWaits {
+// The three waits of a group, in µs; the definitions are about it too.
+struct Waits {
     first: u16,
     second: u16,
     third: u16,
@@ -32,11 +32,11 @@ fn span(from: u8, to: u8) -> u16
 }
 
 // The waits of a group: the differences of its three bytes and 255, in a unit of so many µs.
-fn group_waits(unit: u16, a: u8, b: u8, c: u8) -> SlotWaits
+fn group_waits(unit: u16, a: u8, b: u8, c: u8) -> Waits
     requires { ⌜ unit ≤ 8 ⌝ }
-    ensures { λ w. ⌜ groupWaits unit a b c ≡ record { first = w .first; second = w .second; third = w .third } ⌝ }
+    ensures { λ w. ⌜ w ≡ groupWaits unit a b c ⌝ }
 {
-    SlotWaits {
+    Waits {
         first: unit * span(a, b),
         second: unit * span(b, c),
         third: unit * span(c, 255),
@@ -53,9 +53,9 @@ fn put_step(out: &mut [u8], at: usize, verb: u8, wait: u16) -> usize
 }
 
 // A slot by its three waits and the verbs of its third and fifth action.
-fn put_slot(out: &mut [u8], at: usize, w: SlotWaits, third: u8, fifth: u8) -> usize
+fn put_slot(out: &mut [u8], at: usize, w: Waits, third: u8, fifth: u8) -> usize
     requires { ⌜ at + 24 ≤ length (now out) ⌝ }
-    ensures { λ next. ⌜ Written (now (out .entry)) at (bytesOf (slot (record { first = w .first; second = w .second; third = w .third }) (action third dq 0) (action fifth dq 0))) (now (out .exit)) next ⌝ }
+    ensures { λ next. ⌜ Written (now (out .entry)) at (bytesOf (slot w (action third dq 0) (action fifth dq 0))) (now (out .exit)) next ⌝ }
 {
     let a = put_step(out, at, wire::VERB_DRIVE_LOW, w.first);
     let b = put_step(out, a, third, w.second);
@@ -63,8 +63,8 @@ fn put_slot(out: &mut [u8], at: usize, w: SlotWaits, third: u8, fifth: u8) -> us
 }
 
 // The waits of the write group.
-fn write_waits(ts: [u8; TIMINGS]) -> SlotWaits
-    ensures { λ w. ⌜ writeWaits ts ≡ record { first = w .first; second = w .second; third = w .third } ⌝ }
+fn write_waits(ts: [u8; TIMINGS]) -> Waits
+    ensures { λ w. ⌜ w ≡ writeWaits ts ⌝ }
 {
     group_waits(1, ts[3], ts[4], ts[5])
 }
@@ -79,9 +79,9 @@ pub(crate) fn reset(out: &mut [u8], ts: [u8; TIMINGS]) -> usize
 }
 
 // The low n bits of a byte, low bit first, each in a slot that ends released.
-fn put_bits(out: &mut [u8], w: SlotWaits, n: u8, byte: u8) -> usize
-    requires { ⌜ (n < 8) × (0 + length (bytesOf (each (writeSlot (record { first = w .first; second = w .second; third = w .third }) release) (take n (lowFirst byte)))) ≤ length (now out)) ⌝ }
-    ensures { λ next. ⌜ Written (now (out .entry)) 0 (bytesOf (each (writeSlot (record { first = w .first; second = w .second; third = w .third }) release) (take n (lowFirst byte)))) (now (out .exit)) next ⌝ }
+fn put_bits(out: &mut [u8], w: Waits, n: u8, byte: u8) -> usize
+    requires { ⌜ (n < 8) × (0 + length (bytesOf (each (writeSlot w release) (take n (lowFirst byte)))) ≤ length (now out)) ⌝ }
+    ensures { λ next. ⌜ Written (now (out .entry)) 0 (bytesOf (each (writeSlot w release) (take n (lowFirst byte)))) (now (out .exit)) next ⌝ }
 {
     let mut at: usize = 0;
     let mut i: u8 = 0;

@@ -6,14 +6,14 @@ use native.Mathlib.Omega.{arith}
 use lib.ListN.{take}
 use Rattle.wire.specs.Action.{Action, release}
 use Rattle.signals.specs.OneWire.{writeSlot, lowFirst}
-use Rattle.signals.specs.declared.one_wire.SlotWaits.{SlotWaits}
+use Rattle.signals.specs.declared.one_wire.Waits.{Waits}
 use Rattle.signals.proofs.Rows.{Owed, owed-all, owed-fits, owed-turn, owed-none}
 use Rattle.signals.proofs.Slots.{low-taken, length-low}
 use Rattle.signals.proofs.one_wire.put_bits.Statement.{statement}
 use Rattle.signals.proofs.one_wire.put_bits.Tie as tie
 
-abbrev row : SlotWaits → ℕ → List Action
-row w = writeSlot (record { first = w .first; second = w .second; third = w .third }) release
+abbrev row : Waits → ℕ → List Action
+row w = writeSlot w release
 
 abbrev Inv-loop : tie.InvT-loop
 Inv-loop out₀ w n byte at₀ i₀ out at i = (i ≤ n) × Owed (row w) (take n (lowFirst byte)) out₀ 0 i out at

@@ -1,21 +1,21 @@
 -- The loop's invariant: what writing the slots that are left leaves is what writing all of them leaves.
 use borrow.Author.Needs.{needs}
-use mathlib.Core.Path.{refl, ap}
+use mathlib.Core.Path.{refl, ap, sym}
 use mathlib.Core.List.{List}
 use Prim.Native.Nat.{ℕ, _-_, _≤_}
 use native.Mathlib.Nat.{zero-add}
 use native.Mathlib.Omega.{arith}
 use Rattle.wire.specs.Action.{Action, bytesOf}
 use Rattle.packet.specs.Register.{zeros}
-use Rattle.signals.specs.OneWire.{Waits, sampleSlot, wireRead}
-use Rattle.signals.specs.declared.one_wire.SlotWaits.{SlotWaits}
+use Rattle.signals.specs.OneWire.{sampleSlot, wireRead}
+use Rattle.signals.specs.declared.one_wire.Waits.{Waits}
 use Rattle.signals.proofs.Rows.{Owed, owed-all, owed-fits, owed-turn, owed-none, same-written, same-room}
 use Rattle.signals.proofs.Slots.{length-zeros}
 use Rattle.signals.proofs.one_wire.read.Statement.{statement}
 use Rattle.signals.proofs.one_wire.read.Tie as tie
 
-abbrev row : SlotWaits → ℕ → List Action
-row w x = sampleSlot (record { first = w .first; second = w .second; third = w .third })
+abbrev row : Waits → ℕ → List Action
+row w x = sampleSlot w
 
 abbrev Inv-loop : tie.InvT-loop
 Inv-loop out₀ n w at₀ i₀ out at i = (i ≤ n) × Owed (row w) (zeros n) out₀ 0 i out at
@@ -39,7 +39,7 @@ read-spec =
     let m = c .before .before in
     let g = m .before in
     let s = g .before .before in
-    owed-fits (row (g .group-waits .result)) (zeros (s .args .n)) (m .loop .inv .1) (omega (arith, length-zeros (s .args .n))) refl (rw zero-add (same-room (ap (λ (w : Waits). bytesOf (wireRead w (s .args .n))) (g .group-waits .ensures)) (s .pre))))
+    owed-fits (row (g .group-waits .result)) (zeros (s .args .n)) (m .loop .inv .1) (omega (arith, length-zeros (s .args .n))) refl (rw zero-add (same-room (ap (λ (w : Waits). bytesOf (wireRead w (s .args .n))) (sym (g .group-waits .ensures))) (s .pre))))
     (λ c. search needs)
     (λ c. search needs)
     (λ c.
@@ -53,4 +53,4 @@ read-spec =
     let m = c .before in
     let g = m .before in
     let s = g .before .before in
-    same-written (ap (λ (w : Waits). bytesOf (wireRead w (s .args .n))) (g .group-waits .ensures)) (owed-none (row (g .group-waits .result)) _ (m .loop .inv .1) (omega (arith, length-zeros (s .args .n))))))
+    same-written (ap (λ (w : Waits). bytesOf (wireRead w (s .args .n))) (sym (g .group-waits .ensures))) (owed-none (row (g .group-waits .result)) _ (m .loop .inv .1) (omega (arith, length-zeros (s .args .n))))))

@@ -1,8 +1,9 @@
 -- The slot of the group's waits.
 use borrow.Author.Needs.{needs}
-use mathlib.Core.Path.{ap}
+use mathlib.Core.Path.{ap, sym}
 use Rattle.wire.specs.Action.{bytesOf}
-use Rattle.signals.specs.OneWire.{Waits, sampleSlot}
+use Rattle.signals.specs.OneWire.{sampleSlot}
+use Rattle.signals.specs.declared.one_wire.Waits.{Waits}
 use Rattle.signals.proofs.Rows.{same-written}
 use Rattle.signals.proofs.one_wire.reset.Statement.{statement}
 use Rattle.signals.proofs.one_wire.reset.Tie as tie
@@ -19,4 +20,4 @@ reset-spec =
     (λ c. search needs)
     (λ c.
     let p = c .before .before in
-    same-written (ap (λ (w : Waits). bytesOf (sampleSlot w)) (p .before .before .group-waits .ensures)) (p .put-slot .ensures)))
+    same-written (ap (λ (w : Waits). bytesOf (sampleSlot w)) (sym (p .before .before .group-waits .ensures))) (p .put-slot .ensures)))

@@ -6,15 +6,12 @@ use native.Mathlib.Omega.{arith}
 use lib.ListN.{getD, take}
 use Rattle.wire.specs.Action.{bytesOf, release}
 use Rattle.signals.specs.Lines.{each}
-use Rattle.signals.specs.OneWire.{Waits, writeSlot, lowFirst, wireWrite}
-use Rattle.signals.specs.declared.one_wire.SlotWaits.{SlotWaits}
+use Rattle.signals.specs.OneWire.{writeSlot, lowFirst, wireWrite}
+use Rattle.signals.specs.declared.one_wire.Waits.{Waits}
 use Rattle.signals.proofs.Rows.{joined, first-fits, second-fits, same-written, same-room}
 use Rattle.signals.proofs.Slots.{low-at}
 use Rattle.signals.proofs.one_wire.write.Statement.{statement}
 use Rattle.signals.proofs.one_wire.write.Tie as tie
-
-abbrev waitsOf : SlotWaits → Waits
-waitsOf w = record { first = w .first; second = w .second; third = w .third }
 
 pub write-spec : {M : Type 1} → statement M
 unfolding wireWrite
@@ -29,8 +26,8 @@ write-spec =
     let n = s .args .n in
     let byte = s .args .byte in
     let fifth = s .args .fifth in
-    let W = waitsOf (g .write-waits .result) in
-    let e = ap (λ (w : Waits). bytesOf (wireWrite w n fifth byte)) (g .write-waits .ensures) in
+    let W = g .write-waits .result in
+    let e = ap (λ (w : Waits). bytesOf (wireWrite w n fifth byte)) (sym (g .write-waits .ensures)) in
     (omega (arith, s .pre .0 .0, s .pre .0 .1), first-fits (each (writeSlot W release) (take (n - 1) (lowFirst byte))) (writeSlot W fifth (getD (lowFirst byte) (n - 1) 0)) (same-room e (s .pre .1))))
     (λ c. search needs)
     (λ c. search needs)
@@ -42,8 +39,8 @@ write-spec =
     let n = s .args .n in
     let byte = s .args .byte in
     let fifth = s .args .fifth in
-    let W = waitsOf (g .write-waits .result) in
-    let e = ap (λ (w : Waits). bytesOf (wireWrite w n fifth byte)) (g .write-waits .ensures) in
+    let W = g .write-waits .result in
+    let e = ap (λ (w : Waits). bytesOf (wireWrite w n fifth byte)) (sym (g .write-waits .ensures)) in
     second-fits (each (writeSlot W release) (take (n - 1) (lowFirst byte))) (writeSlot W fifth (getD (lowFirst byte) (n - 1) 0)) (same-room e (s .pre .1)) (p .put-bits .ensures))
     (λ c. search needs)
     (λ c.
@@ -55,7 +52,7 @@ write-spec =
     let n = s .args .n in
     let byte = s .args .byte in
     let fifth = s .args .fifth in
-    let W = waitsOf (g .write-waits .result) in
-    let e = ap (λ (w : Waits). bytesOf (wireWrite w n fifth byte)) (g .write-waits .ensures) in
+    let W = g .write-waits .result in
+    let e = ap (λ (w : Waits). bytesOf (wireWrite w n fifth byte)) (sym (g .write-waits .ensures)) in
     let x : v .verb-for .result ≡ 1 - getD (lowFirst byte) (n - 1) 0 = v .verb-for .ensures ∙ ap (λ (b : ℕ). 1 - b) (sym (low-at byte (n - 1) (omega (arith, s .pre .0 .0, s .pre .0 .1)))) in
     same-written e (joined (each (writeSlot W release) (take (n - 1) (lowFirst byte))) (writeSlot W fifth (getD (lowFirst byte) (n - 1) 0)) (p .put-bits .ensures) (rw x at (q .put-slot .ensures)))))
