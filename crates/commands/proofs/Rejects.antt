@@ -4,6 +4,7 @@ use mathlib.Core.Path.{_≡_, refl, sym, ap, _∙_, subst}
 use mathlib.Core.Bool.{Bool, true, false, not, cond, _||_, true≢false, false≢true}
 use mathlib.Core.List.{List, map}
 use lib.Dec.{eqb}
+use Rattle.wire.specs.Codes.{anyRejecting}
 use Rattle.packet.specs.Packet.{lowBytes}
 use Rattle.registers.specs.Registers.{bitsIn}
 use Rattle.registers.specs.declared.State.{State}
@@ -13,7 +14,7 @@ use Rattle.registers.specs.declared.Fault.the-variants as f
 use Rattle.registers.specs.declared.Event.{Event}
 use Rattle.registers.specs.declared.Event.the-variants as e
 use Rattle.signals.specs.Waveforms.{waveOf}
-use Rattle.commands.specs.Said.{sent, errorAfter, codesOf, anyRejecting, isRejected}
+use Rattle.commands.specs.Said.{sent, errorAfter, codesOf, isRejected}
 use Rattle.commands.specs.Plans.{Plan, Answer, Silent, Returns, ReturnsTwice, ReturnsAndSends, Checked, Sends, SendsSample, SendsLevel, SendsEprom, SendsSerial, SendsTimings, SendsPacket, SendsLow, ReturnsThenLow, returns, sends, saidOf, Effect, carriedOut}
 use Rattle.commands.specs.Events.{planOf, effectOf}
 use Rattle.commands.specs.Promises.{OnlyError, Rejects}
@@ -30,11 +31,10 @@ or-false true h = sym h
 or-false false h = refl
 
 data-calm : (xs : List ℕ) → isRejected (map sent xs) ≡ false
-unfolding anyRejecting
 data-calm xs = ap anyRejecting (codes-sent xs)
 
 calm-said : (s : State) (n : ℕ) (a : Answer) → calm a ≡ true → isRejected (saidOf s n a) ≡ false
-unfolding codesOf anyRejecting
+unfolding codesOf
 calm-said s n Silent h = refl
 calm-said s n (Returns code) h = or-false (rejects code) h
 calm-said s n ReturnsTwice h = refl

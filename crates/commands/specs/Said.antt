@@ -1,9 +1,9 @@
 -- What an event says (01, "Registers and common commands"): "A returned code is stored in ERROR and, if REPORTS_EN is set after
 -- the command, also sent. Commands that send data return none and leave ERROR."
 use Prim.Native.Nat.{ℕ}
-use mathlib.Core.Bool.{Bool, false, cond, _||_}
+use mathlib.Core.Bool.{Bool, cond}
 use mathlib.Core.List.{List, [], _∷_}
-use lib.Dec.{eqb}
+use Rattle.wire.specs.Codes.{anyRejecting}
 
 -- a code returned (01's term), a byte sent, or a code that is returned and sent whatever REPORTS_EN is
 pub data Said : Type 0 where
@@ -32,10 +32,6 @@ codesOf (returned k ∷ xs) = k ∷ codesOf xs
 codesOf (sent x ∷ xs) = codesOf xs
 codesOf (returnedAndSent k ∷ xs) = k ∷ codesOf xs
 
--- REJECTED (01's term): "one that returns 80, or 40", whatever ERROR held
-unfoldable pub anyRejecting : List ℕ → Bool
-anyRejecting [] = false
-anyRejecting (k ∷ ks) = eqb k 0x80 || eqb k 0x40 || anyRejecting ks
-
+-- rejected, whatever ERROR held
 abbrev pub isRejected : List Said → Bool
 isRejected xs = anyRejecting (codesOf xs)

@@ -6,9 +6,10 @@ use mathlib.Core.Bool.{Bool, true, false, cond}
 use mathlib.Core.List.{List, [], _∷_}
 use native.Mathlib.Omega.{arith}
 use lib.ListN.{length, take}
+use Rattle.wire.specs.Codes.{rejecting}
 use Rattle.grammar.specs.Grammar.{SPI, Context, Needs, Common, Selected, Configured, selected, legal, count}
 use Rattle.grammar.specs.Scanner.{Place, Between, Extended, Inside, Scanner, Scanned, Accepted, Rejected, Opening, Unknown, Known, Extension, openingOf, extensionOf, codeFor, between, going, opened, scanAt, scan, Course, through, rejectedAt, later, resume, scanAll}
-use Rattle.grammar.specs.Verdict.{rejecting, Decided}
+use Rattle.grammar.specs.Verdict.{Decided}
 use Rattle.grammar.proofs.Walks.{Walk, stay, move, orderly-walk, continuable-walk}
 
 -- COURSES AND WALKS

@@ -5,10 +5,11 @@ use mathlib.Core.Bool.{Bool, true, false, cond, _||_, true≢false}
 use mathlib.Core.List.{List, [], _∷_}
 use native.Mathlib.Omega.{arith}
 use native.Mathlib.Decide.{decLt}
+use Rattle.wire.specs.Codes.{anyRejecting}
 use Rattle.grammar.specs.Grammar.{Context}
 use Rattle.grammar.specs.Scanner.{Scanner, Scanned, Accepted, Rejected, between, scan, Course, through, rejectedAt, later, resume, scanAll}
 use Rattle.grammar.specs.Verdict.{FirstWrong}
-use Rattle.grammar.specs.Calls.{Machine, Call, Taken, answered, taken, final, bytes, told, anyRejecting, isRejected, NoneRejected, FirstRejected, Demand3, Agree, Follows}
+use Rattle.grammar.specs.Calls.{Machine, Call, Taken, answered, taken, final, bytes, told, wasRejected, NoneRejected, FirstRejected, Demand3, Agree, Follows}
 use Rattle.grammar.proofs.Divisions.{one-division}
 use Rattle.grammar.proofs.Decides.{decides, reject-code}
 
@@ -33,12 +34,12 @@ module _ (M : Machine) (view : M .State → Scanner) (F : Follows M view) where
   unfolding Traced
   traced-later (through h) cs ws v e t = (λ j. here j, t .1)
     where
-      here : (j : ℕ) → isRejected (ws ∷ cs) j ≡ false
+      here : (j : ℕ) → wasRejected (ws ∷ cs) j ≡ false
       here zero = e
       here (suc j) = t .0 j
   traced-later (rejectedAt k w) cs ws v e t = (t .0, here)
     where
-      here : (j : ℕ) → j < suc k → isRejected (ws ∷ cs) j ≡ false
+      here : (j : ℕ) → j < suc k → wasRejected (ws ∷ cs) j ≡ false
       here zero h = e
       here (suc j) h = t .1 j (omega arith)
 

@@ -1,13 +1,14 @@
 -- Demand 3: what a list of calls, each of which hands over one byte, has to do with the grammar. Stated of any machine.
 use Prim.Native.Nat.{ℕ, _<_}
 use mathlib.Core.Path.{_≡_}
-use mathlib.Core.Bool.{Bool, true, false, cond, _||_}
+use mathlib.Core.Bool.{Bool, true, false, cond}
 use mathlib.Core.List.{List, [], _∷_, map}
 use mathlib.Core.Logic.{_↔_}
 use lib.ListN.{getD}
+use Rattle.wire.specs.Codes.{anyRejecting}
 use Rattle.grammar.specs.Grammar.{Context, Division, Orderly, Continuable}
 use Rattle.grammar.specs.Scanner.{Between, Scanner, Scanned, Accepted, Rejected, scan}
-use Rattle.grammar.specs.Verdict.{FirstWrong, rejecting}
+use Rattle.grammar.specs.Verdict.{FirstWrong}
 
 -- a machine that takes a byte and what is lent to it, and answers
 pub record Machine : Type 1 where
@@ -60,19 +61,15 @@ module _ (M : Machine) where
   abbrev pub told : List Taken → List (List ℕ)
   told ts = map (λ (t : Taken). t .codes) ts
 
--- REJECTED (01's term): "A rejected byte is one that returns 80, or 40"; past the end nothing is
-abbrev pub anyRejecting : List ℕ → Bool
-anyRejecting [] = false
-anyRejecting (w ∷ ws) = rejecting w || anyRejecting ws
-
-abbrev pub isRejected : List (List ℕ) → ℕ → Bool
-isRejected cs j = anyRejecting (getD cs j [])
+-- whether the byte at a place was rejected, by the codes that each returned; past the end nothing is
+abbrev pub wasRejected : List (List ℕ) → ℕ → Bool
+wasRejected cs j = anyRejecting (getD cs j [])
 
 abbrev pub NoneRejected : List (List ℕ) → Type 0
-NoneRejected cs = (j : ℕ) → isRejected cs j ≡ false
+NoneRejected cs = (j : ℕ) → wasRejected cs j ≡ false
 
 abbrev pub FirstRejected : List (List ℕ) → ℕ → Type 0
-FirstRejected cs k = (isRejected cs k ≡ true) × ((j : ℕ) → j < k → isRejected cs j ≡ false)
+FirstRejected cs k = (wasRejected cs k ≡ true) × ((j : ℕ) → j < k → wasRejected cs j ≡ false)
 
 -- DEMAND 3, of one list of calls from a state s
 pub record Demand3 (M : Machine) (s : M .State) (ks : List (Call M)) : Type 0 where

@@ -4,9 +4,9 @@ use Prim.Native.Nat.{ℕ, suc, _<_}
 use mathlib.Core.Path.{_≡_}
 use mathlib.Core.List.{List}
 use mathlib.Core.Logic.{_↔_}
-use lib.Dec.{eqb}
 use lib.ListN.{length, take}
-use mathlib.Core.Bool.{Bool, true, _||_}
+use mathlib.Core.Bool.{true}
+use Rattle.wire.specs.Codes.{rejecting}
 use Rattle.grammar.specs.Grammar.{Context, Orderly, Continuable}
 use Rattle.grammar.specs.Scanner.{Place, Between, Extended, Inside, Scanner, between, Course, through, rejectedAt, scanAll}
 pub use Rattle.grammar.specs.declared.Verdict.{Verdict}
@@ -44,10 +44,6 @@ pub record Judged (c : Context) (bs : List ℕ) : Type 0 where
 -- the first k bytes can be continued, and with byte k they can't
 abbrev pub FirstWrong : Context → List ℕ → ℕ → Type 0
 FirstWrong c bs k = (k < length bs) × Continuable c (take k bs) × ¬ Continuable c (take (suc k) bs)
-
--- the codes that say that a byte was rejected
-abbrev pub rejecting : ℕ → Bool
-rejecting w = eqb w 0x80 || eqb w 0x40
 
 -- THEOREM (proofs/Decides.antt, `decides`): the scanner decides what is orderly and what can be continued, and stops at the
 -- first wrong place with 80 or 40

@@ -1,3 +1,4 @@
 pub mod Action
 pub mod Buffer
 pub mod Sample
+pub mod Codes
