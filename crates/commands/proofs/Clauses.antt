@@ -100,13 +100,10 @@ module _ (s : State) where
   common-clause k.NoCommon = coded 0x80 refl
 
   extended-clause : (c : ExtendedCommand) → Clause s (runExtended s c)
-  extended-clause x.PulseC5 = fine refl refl
-  extended-clause x.PulseD3 = fine refl refl
-  extended-clause (x.PulseD4 a b) = fine refl refl
-  extended-clause x.SetPortd5 = fine refl refl
-  extended-clause x.ClearPortd5 = fine refl refl
-  extended-clause x.SetDdrd5 = fine refl refl
-  extended-clause x.ClearDdrd5 = fine refl refl
+  extended-clause (x.PulseUp a b) = fine refl refl
+  extended-clause (x.PulseDown a b u m) = fine refl refl
+  extended-clause (x.SetBit a b) = fine refl refl
+  extended-clause (x.ClearBit a b) = fine refl refl
   extended-clause x.LoadCycles = fine refl refl
   extended-clause x.ReadCycles = fine refl refl
   extended-clause x.NoExtended = coded 0x80 refl

@@ -1,13 +1,13 @@
 -- Every event keeps the ranges. Assumes nothing.
 use Prim.Native.Nat.{ℕ, _-_, _%_, _<_, _≤_}
 use mathlib.Core.Path.{_≡_, refl}
-use mathlib.Core.Bool.{Bool, true, false, _&&_}
+use mathlib.Core.Bool.{Bool, true, false}
 use native.Mathlib.Omega.{arith}
-use borrow.Author.Tests.{le-leb, eqb-false}
-use lib.Dec.{eqb, leb, ltb}
+use borrow.Author.Tests.{eqb-false}
+use lib.Dec.{eqb, ltb}
 use Rattle.packet.specs.Packet.{width, packetBytes, sizeRegister}
 use Rattle.registers.specs.Registers.{i2cSelected, spiSelected, wireSelected, bitsIn, configuredAs, withSize}
-use Rattle.registers.specs.Ranges.{selectedCount, waitFits, PageInRange, InRange}
+use Rattle.registers.specs.Ranges.{selectedCount, PageInRange, PacketWait, InRange}
 use Rattle.registers.specs.declared.Page.{Page}
 use Rattle.registers.specs.declared.State.{State}
 use Rattle.registers.specs.declared.PortRegister.the-variants as r
@@ -17,10 +17,10 @@ use Rattle.registers.specs.declared.Wait.{Wait}
 use Rattle.registers.specs.declared.Wait.the-variants as v
 use Rattle.registers.specs.declared.Event.{Event}
 use Rattle.registers.specs.declared.Event.the-variants as e
-use Rattle.registers.proofs.InRange.{most-left, both, both-left, packet-left, timings-left, wait-as}
+use Rattle.registers.proofs.InRange.{wait-as}
 use mathlib.Core.List.{List}
 use Rattle.commands.specs.Plans.{carriedOut}
-use Rattle.commands.specs.Common.{CommonCommand, resetPage, chosenPage, commonOf, runCommon}
+use Rattle.commands.specs.Common.{Three, Four, CommonCommand, resetPage, chosenPage, commonOf, runCommon}
 use Rattle.commands.specs.Extended.{ExtendedCommand, extendedOf, runExtended}
 use Rattle.commands.specs.I2c.{I2cCommand, i2cOf, runI2c}
 use Rattle.commands.specs.Spi.{SpiCommand, spiOf, runSpi}
@@ -32,7 +32,7 @@ use Rattle.commands.specs.declared.ExtendedCommand.the-variants as x
 use Rattle.commands.specs.declared.I2cCommand.the-variants as i
 use Rattle.commands.specs.declared.SpiCommand.the-variants as p
 use Rattle.commands.specs.declared.WireCommand.the-variants as w
-use Rattle.commands.proofs.KeptParts.{page-register, protected-fits, d3-on, d3-off, d4-on, d4-off, d5-on, d5-off, c5-on, c5-off, flag-count, page-flags, idle-page, waits, settles, Kept, kept-cond}
+use Rattle.commands.proofs.KeptParts.{page-register, protected-fits, on-fits, off-fits, register-fits, flag-count, page-flags, idle-page, waits, settles, Kept, kept-cond}
 
 -- THE PAGES OF 00 TO 03
 
@@ -63,26 +63,23 @@ module _ (s : State) (n : InRange s) where
   common-keeps e k.DisableReports = idle-page s _ e (page-flags (s .page) _ q (omega (arith, q .flag-bits)) (omega arith))
   common-keeps e k.EnableAutoload = idle-page s _ e (page-flags (s .page) _ q (omega (arith, q .flag-bits)) (omega arith))
   common-keeps e k.DisableAutoload = idle-page s _ e (page-flags (s .page) _ q (omega (arith, q .flag-bits)) (omega arith))
-  common-keeps e (k.SetupPort a) = waits s (v.One (o.ToPort a)) q refl
+  common-keeps e (k.SetupPort a) = waits s (v.One (o.ToPort a)) q tt
   common-keeps e (k.ReadPort a) = n
   common-keeps e (k.ReadPins a) = n
   common-keeps e k.ReadFlags = n
   common-keeps e k.ReadVersion = n
-  common-keeps e k.SetIog = idle-page s _ e (page-register (s .page) r.Portd _ q (d3-on _ (d4-on (s .page .portd) (q .d-latch))))
-  common-keeps e k.DoExtended = waits s v.Extended q refl
+  common-keeps e k.SetIog = idle-page s _ e (page-register (s .page) r.Portd _ q (on-fits r.Portd Three _ (on-fits r.Portd Four (s .page .portd) (q .d-latch))))
+  common-keeps e k.DoExtended = waits s v.Extended q tt
   common-keeps e k.ReadSerial = n
   common-keeps e k.NoCommon = n
 
   extended-keeps : (c : ExtendedCommand) → Kept (runExtended s c)
   unfolding q Kept
-  extended-keeps x.PulseC5 = settles s _ (page-register (s .page) r.Portc _ q (c5-off _ (c5-on (s .page .portc) (q .c-latch))))
-  extended-keeps x.PulseD3 = settles s _ (page-register (s .page) r.Portd _ q (d3-off _ (d3-on (s .page .portd) (q .d-latch))))
-  extended-keeps (x.PulseD4 a b) = settles s _ (page-register (s .page) r.Portd _ q (d4-on _ (d4-off (s .page .portd) (q .d-latch))))
-  extended-keeps x.SetPortd5 = settles s _ (page-register (s .page) r.Portd _ q (d5-on (s .page .portd) (q .d-latch)))
-  extended-keeps x.ClearPortd5 = settles s _ (page-register (s .page) r.Portd _ q (d5-off (s .page .portd) (q .d-latch)))
-  extended-keeps x.SetDdrd5 = settles s _ (page-register (s .page) r.Ddrd _ q (d5-on (s .page .ddrd) (q .d-direction)))
-  extended-keeps x.ClearDdrd5 = settles s _ (page-register (s .page) r.Ddrd _ q (d5-off (s .page .ddrd) (q .d-direction)))
-  extended-keeps x.LoadCycles = waits s (v.One o.ToCycles) q refl
+  extended-keeps (x.PulseUp a b) = settles s _ (page-register (s .page) a _ q (off-fits a b _ (on-fits a b _ (register-fits (s .page) a q))))
+  extended-keeps (x.PulseDown a b u m) = settles s _ (page-register (s .page) a _ q (on-fits a b _ (off-fits a b _ (register-fits (s .page) a q))))
+  extended-keeps (x.SetBit a b) = settles s _ (page-register (s .page) a _ q (on-fits a b _ (register-fits (s .page) a q)))
+  extended-keeps (x.ClearBit a b) = settles s _ (page-register (s .page) a _ q (off-fits a b _ (register-fits (s .page) a q)))
+  extended-keeps x.LoadCycles = waits s (v.One o.ToCycles) q tt
   extended-keeps x.ReadCycles = settles s (s .page) q
   extended-keeps x.NoExtended = n
 
@@ -96,8 +93,8 @@ module _ (s : State) (n : InRange s) where
   i2c-keeps t i.ReadCs = n
   i2c-keeps t i.NoI2c = n
 
-  packet-waits : spiSelected (s .page .flags) ≡ true → s .page .configured ≡ true → (exchange : Bool) → waitFits (v.Packet (packetBytes (bitsIn (s .page))) exchange) (s .page .flags) (s .page .configured) (bitsIn (s .page)) ≡ true
-  packet-waits t c exchange = both (both (both t c) (le-leb 1 (packetBytes (bitsIn (s .page))) (omega arith))) (le-leb (packetBytes (bitsIn (s .page))) (packetBytes (bitsIn (s .page))) (omega arith))
+  packet-waits : spiSelected (s .page .flags) ≡ true → s .page .configured ≡ true → PacketWait (s .page .flags) (s .page .configured) (bitsIn (s .page)) (packetBytes (bitsIn (s .page)))
+  packet-waits t c = record { spi-selected = t; spi-configured = c; one-or-more = omega arith; packet-or-less = omega arith }
 
   spi-keeps : spiSelected (s .page .flags) ≡ true → (c : SpiCommand) → Kept (runSpi s c)
   unfolding q Kept
@@ -105,7 +102,7 @@ module _ (s : State) (n : InRange s) where
   spi-keeps t p.ReadConfig = kept-cond (s .page .configured) _ _ (λ c. n) (λ c. n)
   spi-keeps t p.LoadSize = waits s (v.One o.ToSize) q t
   spi-keeps t p.ReadSize = n
-  spi-keeps t (p.LoadPacket exchange) = kept-cond (s .page .configured) _ _ (λ c. waits s (v.Packet (packetBytes (bitsIn (s .page))) exchange) q (packet-waits t c exchange)) (λ c. n)
+  spi-keeps t (p.LoadPacket exchange) = kept-cond (s .page .configured) _ _ (λ c. waits s (v.Packet (packetBytes (bitsIn (s .page))) exchange) q (packet-waits t c)) (λ c. n)
   spi-keeps t p.ReadPacket = n
   spi-keeps t p.StartExchange = kept-cond (s .page .configured) _ _ (λ c. n) (λ c. n)
   spi-keeps t (p.DriveSs a) = n
@@ -122,7 +119,7 @@ module _ (s : State) (n : InRange s) where
   wire-keeps t w.SendWireStrong = waits s (v.One o.ToWireStrong) q t
   wire-keeps t w.ReadWire = n
   wire-keeps t w.ReadWireBit = n
-  wire-keeps t w.LoadTimings = waits s (v.Timings 9) q (both (both t refl) refl)
+  wire-keeps t w.LoadTimings = waits s (v.Timings 9) q (record { wire-selected = t; one-or-more = omega arith; nine-or-less = omega arith })
   wire-keeps t w.ReadTimings = n
   wire-keeps t w.ReleaseDq = n
   wire-keeps t (w.PulsePb7 a b) = n
@@ -147,7 +144,7 @@ module _ (s : State) (n : InRange s) where
   operand-keeps : (a : Operand) (b : ℕ) → Kept (operandPlan s a b)
   unfolding q Kept
   operand-keeps (o.ToPort a) b = settles s _ (page-register (s .page) a _ q (protected-fits (s .page) a b q))
-  operand-keeps o.ToCycles b = record { page = q; wait = refl }
+  operand-keeps o.ToCycles b = record { page = q; wait = tt }
   operand-keeps o.ToI2c b = settles s (s .page) q
   operand-keeps o.ToConfig b = settles s _ (config-keeps b)
   operand-keeps o.ToSize b = settles s _ (size-keeps b)
@@ -163,27 +160,16 @@ module _ (s : State) (n : InRange s) where
   packet-keeps : (left : ℕ) (exchange : Bool) (b : ℕ) → s .wait ≡ v.Packet left exchange → Kept (packetPlan s left exchange b)
   unfolding q Kept
   packet-keeps left exchange b e =
-      let m = packet-left s left exchange n e in
       let t = wait-as s (v.Packet left exchange) n e in
       kept-cond (eqb left 1) _ _ (λ _. loaded-keeps _ exchange)
-      (λ f.
-      let ne = eqb-false left 1 f in
-      let a = spiSelected (s .page .flags) && s .page .configured in
-      let most = packetBytes (bitsIn (s .page)) in
-      let ab = both-left a (leb 1 left) (both-left (a && leb 1 left) (leb left most) t) in
-      record { page = q; wait = both (both ab (le-leb 1 (left - 1) (below-one left (m .1) ne))) (le-leb (left - 1) most (omega (arith, m .2, most-left (s .page .size)))) })
+      (λ f. record { page = q; wait = record { spi-selected = t .spi-selected; spi-configured = t .spi-configured; one-or-more = below-one left (t .one-or-more) (eqb-false left 1 f); packet-or-less = omega (arith, t .packet-or-less) } })
 
   timings-keeps : (left : ℕ) (b : ℕ) → s .wait ≡ v.Timings left → Kept (timingsPlan s left b)
   unfolding q Kept
   timings-keeps left b e =
-      let m = timings-left s left n e in
       let t = wait-as s (v.Timings left) n e in
       kept-cond (eqb left 1) _ _ (λ _. settles s _ q)
-      (λ f.
-      let ne = eqb-false left 1 f in
-      let a = wireSelected (s .page .flags) in
-      let on = both-left a (leb 1 left) (both-left (a && leb 1 left) (leb left 9) t) in
-      record { page = q; wait = both (both on (le-leb 1 (left - 1) (below-one left (m .0) ne))) (le-leb (left - 1) 9 (omega (arith, m .1))) })
+      (λ f. record { page = q; wait = record { wire-selected = t .wire-selected; one-or-more = below-one left (t .one-or-more) (eqb-false left 1 f); nine-or-less = omega (arith, t .nine-or-less) } })
 
   byte-keeps : (a : Wait) (b : ℕ) → s .wait ≡ a → Kept (bytePlan s a b)
   byte-keeps v.Nothing b e = command-keeps e b

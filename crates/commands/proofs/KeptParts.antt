@@ -1,10 +1,10 @@
 -- What keeps the ranges: the registers' rules, and how a state is put together. Assumes nothing.
 use Prim.Native.Nat.{ℕ, _+_, _*_, _/_, _%_, _<_}
-use mathlib.Core.Path.{_≡_, refl, sym, ap, _∙_}
+use mathlib.Core.Path.{_≡_, refl, sym, ap, subst, _∙_}
 use mathlib.Core.Bool.{Bool, true, false, cond}
 use native.Mathlib.Omega.{arith}
 use Rattle.registers.specs.Registers.{registerOf, withRegister, protected, withFlags, withPage, waiting, settled, bitsIn}
-use Rattle.registers.specs.Ranges.{selectedCount, waitFits, PageInRange, InRange}
+use Rattle.registers.specs.Ranges.{selectedCount, PageInRange, WaitInRange, InRange}
 use Rattle.registers.specs.declared.Page.{Page}
 use Rattle.registers.specs.declared.State.{State}
 use Rattle.registers.specs.declared.PortRegister.{PortRegister}
@@ -12,7 +12,7 @@ use Rattle.registers.specs.declared.PortRegister.the-variants as r
 use Rattle.registers.specs.declared.Wait.{Wait}
 use Rattle.registers.specs.declared.Wait.the-variants as v
 use Rattle.commands.specs.Plans.{Plan}
-use Rattle.commands.specs.Common.{withBit, withoutBit, keptFlags}
+use Rattle.commands.specs.Common.{Bit, Three, Four, Five, withBit, withoutBit, keptFlags}
 
 -- PORT REGISTERS
 
@@ -47,30 +47,50 @@ protected-fits p r.Portc n q = keep-c (p .portc) n (q .c-latch)
 protected-fits p r.Ddrd n q = keep-d (p .ddrd) n (q .d-direction)
 protected-fits p r.Portd n q = keep-d (p .portd) n (q .d-latch)
 
--- bits 3, 4 and 5 set and cleared leave bits 0 and 1
-pub d3-on : (x : ℕ) → x % 4 ≡ 0 → (withBit 8 x) % 4 ≡ 0
-d3-on x h = omega arith
+-- a bit that a command sets or clears leaves a port register in its range
+low-two-on : (b : Bit) (x : ℕ) → x % 4 ≡ 0 → withBit b x % 4 ≡ 0
+low-two-on Three x h = omega arith
+low-two-on Four x h = omega arith
+low-two-on Five x h = omega arith
 
-pub d3-off : (x : ℕ) → x % 4 ≡ 0 → (withoutBit 8 x) % 4 ≡ 0
-d3-off x h = omega arith
+low-two-off : (b : Bit) (x : ℕ) → x % 4 ≡ 0 → withoutBit b x % 4 ≡ 0
+low-two-off Three x h = omega arith
+low-two-off Four x h = omega arith
+low-two-off Five x h = omega arith
 
-pub d4-on : (x : ℕ) → x % 4 ≡ 0 → (withBit 16 x) % 4 ≡ 0
-d4-on x h = omega arith
+low-six-on : (b : Bit) (x : ℕ) → x < 64 → withBit b x < 64
+low-six-on Three x h = omega arith
+low-six-on Four x h = omega arith
+low-six-on Five x h = omega arith
 
-pub d4-off : (x : ℕ) → x % 4 ≡ 0 → (withoutBit 16 x) % 4 ≡ 0
-d4-off x h = omega arith
+low-six-off : (b : Bit) (x : ℕ) → x < 64 → withoutBit b x < 64
+low-six-off Three x h = omega arith
+low-six-off Four x h = omega arith
+low-six-off Five x h = omega arith
 
-pub d5-on : (x : ℕ) → x % 4 ≡ 0 → (withBit 32 x) % 4 ≡ 0
-d5-on x h = omega arith
+pub on-fits : (r : PortRegister) (b : Bit) (x : ℕ) → Fits r x → Fits r (withBit b x)
+on-fits r.Ddrb b x f = tt
+on-fits r.Portb b x f = tt
+on-fits r.Ddrc b x f = low-six-on b x f
+on-fits r.Portc b x f = low-six-on b x f
+on-fits r.Ddrd b x f = low-two-on b x f
+on-fits r.Portd b x f = low-two-on b x f
 
-pub d5-off : (x : ℕ) → x % 4 ≡ 0 → (withoutBit 32 x) % 4 ≡ 0
-d5-off x h = omega arith
+pub off-fits : (r : PortRegister) (b : Bit) (x : ℕ) → Fits r x → Fits r (withoutBit b x)
+off-fits r.Ddrb b x f = tt
+off-fits r.Portb b x f = tt
+off-fits r.Ddrc b x f = low-six-off b x f
+off-fits r.Portc b x f = low-six-off b x f
+off-fits r.Ddrd b x f = low-two-off b x f
+off-fits r.Portd b x f = low-two-off b x f
 
-pub c5-on : (x : ℕ) → x < 64 → withBit 32 x < 64
-c5-on x h = omega arith
-
-pub c5-off : (x : ℕ) → x < 64 → withoutBit 32 x < 64
-c5-off x h = omega arith
+pub register-fits : (p : Page) (r : PortRegister) → PageInRange p → Fits r (registerOf p r)
+register-fits p r.Ddrb q = tt
+register-fits p r.Portb q = tt
+register-fits p r.Ddrc q = q .c-direction
+register-fits p r.Portc q = q .c-latch
+register-fits p r.Ddrd q = q .d-direction
+register-fits p r.Portd q = q .d-latch
 
 -- FLAGS
 
@@ -104,13 +124,13 @@ page-flags p f q h e =
 -- STATES
 
 pub idle-page : (s : State) (p : Page) → s .wait ≡ v.Nothing → PageInRange p → InRange (withPage s p)
-idle-page s p e q = record { page = q; wait = ap (λ (w : Wait). waitFits w (p .flags) (p .configured) (bitsIn p)) e }
+idle-page s p e q = record { page = q; wait = subst (λ (w : Wait). WaitInRange w (p .flags) (p .configured) (bitsIn p)) (sym e) tt }
 
-pub waits : (s : State) (w : Wait) → PageInRange (s .page) → waitFits w (s .page .flags) (s .page .configured) (bitsIn (s .page)) ≡ true → InRange (waiting s w)
+pub waits : (s : State) (w : Wait) → PageInRange (s .page) → WaitInRange w (s .page .flags) (s .page .configured) (bitsIn (s .page)) → InRange (waiting s w)
 waits s w q e = record { page = q; wait = e }
 
 pub settles : (s : State) (p : Page) → PageInRange p → InRange (settled s p)
-settles s p q = record { page = q; wait = refl }
+settles s p q = record { page = q; wait = tt }
 
 unfoldable pub Kept : Plan → Type 0
 Kept p = InRange (p .state)

@@ -13,6 +13,8 @@ use Rattle.registers.specs.declared.Operand.the-variants as o
 use Rattle.registers.specs.declared.Wait.the-variants as v
 use Rattle.signals.specs.declared.Waveform.the-variants as w
 use Rattle.commands.specs.Plans.{Plan, Sends, SendsSample, SendsEprom, SendsSerial, plan, returns, sends, performs, awaits}
+pub use Rattle.commands.specs.declared.Bit.{Bit}
+pub use Rattle.commands.specs.declared.Bit.the-variants.{Three, Four, Five}
 pub use Rattle.commands.specs.declared.CommonCommand.{CommonCommand}
 pub use Rattle.commands.specs.declared.CommonCommand.the-variants as k
 
@@ -43,12 +45,17 @@ commonTable =
 abbrev pub commonOf : ℕ → CommonCommand
 commonOf b = lookup k.NoCommon b commonTable
 
--- A BIT OF A REGISTER, by its weight
-abbrev pub withBit : ℕ → ℕ → ℕ
-withBit weight x = x % weight + weight + x / (weight * 2) * (weight * 2)
+-- A BIT OF A REGISTER that a command sets or clears; the bits below and above it stay
+abbrev pub weightOf : Bit → ℕ
+weightOf Three = 8
+weightOf Four = 16
+weightOf Five = 32
 
-abbrev pub withoutBit : ℕ → ℕ → ℕ
-withoutBit weight x = x % weight + x / (weight * 2) * (weight * 2)
+abbrev pub withBit : Bit → ℕ → ℕ
+withBit b x = x % weightOf b + weightOf b + x / (weightOf b * 2) * (weightOf b * 2)
+
+abbrev pub withoutBit : Bit → ℕ → ℕ
+withoutBit b x = x % weightOf b + x / (weightOf b * 2) * (weightOf b * 2)
 
 -- THE REGISTERS
 
@@ -91,11 +98,11 @@ runCommon s k.ChooseWire = performs (withPage s (chosenPage (s .page) 4)) w.Rein
 runCommon s k.ReadError = sends (withPage s (withError (s .page) 0)) (Sends (s .page .error))
 runCommon s k.SaveToEprom = returns (withShared s (withEprom (s .shared) (imageOf (s .page)))) 0x00
 runCommon s k.ReadFromEprom = sends s SendsEprom
-runCommon s k.EnableReports = returns (withPage s (withFlags (s .page) (withBit 8 (s .page .flags)))) 0x00
+runCommon s k.EnableReports = returns (withPage s (withFlags (s .page) (withBit Three (s .page .flags)))) 0x00
 -- 00 is returned for 08 too (H), and not sent, since reports are off after it
-runCommon s k.DisableReports = returns (withPage s (withFlags (s .page) (withoutBit 8 (s .page .flags)))) 0x00
-runCommon s k.EnableAutoload = returns (withPage s (withFlags (s .page) (withBit 16 (s .page .flags)))) 0x00
-runCommon s k.DisableAutoload = returns (withPage s (withFlags (s .page) (withoutBit 16 (s .page .flags)))) 0x00
+runCommon s k.DisableReports = returns (withPage s (withFlags (s .page) (withoutBit Three (s .page .flags)))) 0x00
+runCommon s k.EnableAutoload = returns (withPage s (withFlags (s .page) (withBit Four (s .page .flags)))) 0x00
+runCommon s k.DisableAutoload = returns (withPage s (withFlags (s .page) (withoutBit Four (s .page .flags)))) 0x00
 runCommon s (k.SetupPort x) = awaits s (v.One (o.ToPort x))
 runCommon s (k.ReadPort x) = sends s (Sends (registerOf (s .page) x))
 runCommon s (k.ReadPins line) = plan s (w.SamplePort line) SendsSample
@@ -104,8 +111,8 @@ runCommon s k.ReadFlags = sends s (Sends (s .page .flags))
 runCommon s k.ReadVersion = sends s (Sends (s .shared .version))
 -- 1C: "PD4 latched 1, wait IOG cycles, PD3 latched 1"
 runCommon s k.SetIog =
-    performs (withPage s (withRegister (s .page) r.Portd (withBit 8 (withBit 16 (s .page .portd)))))
-    (w.Strobe (withBit 16 (s .page .portd)) (s .shared .cycles) (withBit 8 (withBit 16 (s .page .portd))))
+    performs (withPage s (withRegister (s .page) r.Portd (withBit Three (withBit Four (s .page .portd)))))
+    (w.Strobe (withBit Four (s .page .portd)) (s .shared .cycles) (withBit Three (withBit Four (s .page .portd))))
 runCommon s k.DoExtended = awaits s v.Extended
 -- four bytes, low first (H)
 runCommon s k.ReadSerial = sends s SendsSerial

@@ -6,13 +6,13 @@ use mathlib.Core.List.{List, [], _∷_, map}
 use lib.Dec.{eqb}
 use Rattle.packet.specs.Packet.{lowBytes}
 use Rattle.wire.specs.Action.{Action}
-use Rattle.registers.specs.Registers.{withPage, withPacket, withError, waiting, bitsIn}
+use Rattle.registers.specs.Registers.{reportsOn, withPage, withPacket, withError, waiting, bitsIn}
 use Rattle.registers.specs.declared.State.{State}
 use Rattle.registers.specs.declared.Wait.{Wait}
 use Rattle.signals.specs.Waveforms.{Wave}
 use Rattle.signals.specs.declared.Waveform.{Waveform}
 use Rattle.signals.specs.declared.Waveform.the-variants as w
-use Rattle.commands.specs.Said.{Said, returned, sent, returnedAndSent, errorAfter}
+use Rattle.commands.specs.Said.{Said, returned, sent, returnedAndSent, errorAfter, repliesOf}
 pub use Rattle.commands.specs.declared.Plan.{Plan}
 pub use Rattle.commands.specs.declared.Answer.{Answer}
 pub use Rattle.commands.specs.declared.Answer.the-variants.{Silent, Returns, ReturnsTwice, ReturnsAndSends, Checked, Sends, SendsSample, SendsLevel, SendsEprom, SendsSerial, SendsTimings, SendsPacket, SendsLow, ReturnsThenLow}
@@ -61,6 +61,10 @@ pub record Effect : Type 0 where
   pub said : List Said
   pub actions : List Action
   pub used : ℕ
+
+-- the reply bytes: "if REPORTS_EN is set after the command"
+abbrev pub sentBy : Effect → List ℕ
+sentBy x = repliesOf (reportsOn (x .state .page .flags)) (x .said)
 
 -- the packet register is what the waveform left, and ERROR what was said
 abbrev pub received : State → List ℕ → State

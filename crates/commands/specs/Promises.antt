@@ -5,12 +5,12 @@ use mathlib.Core.Bool.{Bool, true, cond}
 use mathlib.Core.List.{List, []}
 use lib.ListN.{length}
 use Rattle.packet.specs.Packet.{width, registerBytes, packetBytes}
-use Rattle.registers.specs.Registers.{reportsOn, bitsIn, withPage, withError}
+use Rattle.registers.specs.Registers.{bitsIn, withPage, withError}
 use Rattle.registers.specs.Ranges.{InRange}
 use Rattle.registers.specs.declared.State.{State}
 use Rattle.registers.specs.declared.Event.{Event}
-use Rattle.commands.specs.Said.{isRejected, repliesOf}
-use Rattle.commands.specs.Plans.{Effect, Answer, Silent, Returns, ReturnsTwice, ReturnsAndSends, Checked, Sends, SendsSample, SendsLevel, SendsEprom, SendsSerial, SendsTimings, SendsPacket, SendsLow, ReturnsThenLow}
+use Rattle.commands.specs.Said.{isRejected}
+use Rattle.commands.specs.Plans.{Effect, sentBy, Answer, Silent, Returns, ReturnsTwice, ReturnsAndSends, Checked, Sends, SendsSample, SendsLevel, SendsEprom, SendsSerial, SendsTimings, SendsPacket, SendsLow, ReturnsThenLow}
 use Rattle.commands.specs.Events.{effectOf}
 
 -- `event-keeps` in proofs/Keeps.antt: no event breaks a range
@@ -63,4 +63,4 @@ abbrev pub FewActions : State → Event → List ℕ → ℕ → Type 0
 FewActions s e ss m = InRange s → length ((effectOf s e ss m) .actions) ≤ mostActions
 
 abbrev pub FewReplies : State → Event → List ℕ → ℕ → Type 0
-FewReplies s e ss m = InRange s → Sized s → length (repliesOf (reportsOn ((effectOf s e ss m) .state .page .flags)) ((effectOf s e ss m) .said)) ≤ mostReplies
+FewReplies s e ss m = InRange s → Sized s → length (sentBy (effectOf s e ss m)) ≤ mostReplies

@@ -1,5 +1,4 @@
--- What an event leaves and sends once its answer is known: ERROR stored, and the reply bytes. The replies are named in
--- src/lib.rt; long ones are read from the state when they are written.
+-- For the contracts of `settle`, `reply_size` and `put_reply`, which go by a name for the reply bytes; 01 does not speak of it.
 use mathlib.Core.List.{List, [], _∷_}
 use Prim.Native.Nat.{ℕ}
 use Rattle.packet.specs.Packet.{lowBytes}

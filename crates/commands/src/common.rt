@@ -3,10 +3,13 @@ ghost use mathlib.Core.Path.{_≡_};
 ghost use Prim.Native.Nat.{_<_};
 ghost use Rattle.registers.specs.Registers.{withFlags, withPage};
 ghost use Rattle.commands.specs.Plans.{returns, performs};
-ghost use Rattle.commands.specs.Common.{commonOf, chosenPage, imageTail, imageMark, imageOf, runCommon};
+ghost use Rattle.commands.specs.Common.{commonOf, withBit, withoutBit, chosenPage, imageTail, imageMark, imageOf, runCommon};
 use crate::Answer;
+use crate::Bit;
 use crate::CommonCommand;
 use crate::Plan;
+use crate::bits::clear_bit;
+use crate::bits::set_bit;
 use crate::plans::awaiting;
 use crate::plans::make;
 use crate::plans::performing;
@@ -166,43 +169,44 @@ fn save(mut s: State) -> Plan
     }
 }
 
-// 07 to 0A: the flags another, 00 returned.
-fn flag(mut s: State, flags: u8) -> Plan
-    ensures { λ r. ⌜ r ≡ returns (withPage s (withFlags (s .page) flags)) 0 ⌝ }
+// 07, 09: a flag set, 00 returned.
+fn enable(mut s: State, bit: Bit) -> Plan
+    ensures { λ r. ⌜ r ≡ returns (withPage s (withFlags (s .page) (withBit bit (s .page .flags)))) 0 ⌝ }
 {
-    s.page.flags = flags;
-    Plan {
-        state: s,
-        wave: Waveform::Still,
-        answer: Answer::Returns(0x00),
-    }
+    let f = set_bit(bit, s.page.flags);
+    s.page.flags = f;
+    returning(s, 0x00)
+}
+
+// 08, 0A: a flag cleared, 00 returned.
+fn disable(mut s: State, bit: Bit) -> Plan
+    ensures { λ r. ⌜ r ≡ returns (withPage s (withFlags (s .page) (withoutBit bit (s .page .flags)))) 0 ⌝ }
+{
+    let f = clear_bit(bit, s.page.flags);
+    s.page.flags = f;
+    returning(s, 0x00)
 }
 
 // 1C: PD4 latched, the IOG cycles waited, PD3 latched.
 fn set_iog(mut s: State) -> Plan
     ensures { λ r. ⌜ r ≡ runCommon s CommonCommand.SetIog ⌝ }
 {
-    let x = s.page.portd;
-    let first = x % 16 + 16 + x / 32 * 32;
-    let last = first % 8 + 8 + first / 16 * 16;
+    let first = set_bit(Bit::Four, s.page.portd);
+    let last = set_bit(Bit::Three, first);
     s.page.portd = last;
     let cycles = s.shared.cycles;
-    Plan {
-        state: s,
-        wave: Waveform::Strobe {
-            first,
-            cycles,
-            last,
-        },
-        answer: Answer::Returns(0x00),
-    }
+    let wave = Waveform::Strobe {
+        first,
+        cycles,
+        last,
+    };
+    performing(s, wave)
 }
 
 // What a common command does.
 pub(crate) fn run(s: State, c: CommonCommand) -> Plan
     ensures { λ r. ⌜ r ≡ runCommon s c ⌝ }
 {
-    let f = s.page.flags;
     match c {
         CommonCommand::ResetDevice => reset(s),
         CommonCommand::ChooseI2c => choose(s, 1, Waveform::ReinitHigh(wire::LINE_CS)),
@@ -211,17 +215,17 @@ pub(crate) fn run(s: State, c: CommonCommand) -> Plan
         CommonCommand::ReadError => read_error(s),
         CommonCommand::SaveToEprom => save(s),
         CommonCommand::ReadFromEprom => sending(s, Answer::SendsEprom),
-        CommonCommand::EnableReports => flag(s, f % 8 + 8 + f / 16 * 16),
-        CommonCommand::DisableReports => flag(s, f % 8 + f / 16 * 16),
-        CommonCommand::EnableAutoload => flag(s, f % 16 + 16 + f / 32 * 32),
-        CommonCommand::DisableAutoload => flag(s, f % 16 + f / 32 * 32),
+        CommonCommand::EnableReports => enable(s, Bit::Three),
+        CommonCommand::DisableReports => disable(s, Bit::Three),
+        CommonCommand::EnableAutoload => enable(s, Bit::Four),
+        CommonCommand::DisableAutoload => disable(s, Bit::Four),
         CommonCommand::SetupPort(r) => awaiting(s, Wait::One(Operand::ToPort(r))),
         CommonCommand::ReadPort(r) => {
             let page = s.page;
             sending(s, Answer::Sends(registers::ports::port_register(page, r)))
         }
         CommonCommand::ReadPins(line) => make(s, Waveform::SamplePort(line), Answer::SendsSample),
-        CommonCommand::ReadFlags => sending(s, Answer::Sends(f)),
+        CommonCommand::ReadFlags => sending(s, Answer::Sends(s.page.flags)),
         CommonCommand::ReadVersion => sending(s, Answer::Sends(s.shared.version)),
         CommonCommand::SetIog => set_iog(s),
         CommonCommand::DoExtended => awaiting(s, Wait::Extended),

@@ -3,6 +3,7 @@ ghost use mathlib.Core.Path.{_≡_};
 ghost use Rattle.registers.specs.Ranges.{InRange};
 ghost use Rattle.commands.specs.Events.{planOf};
 
+mod bits;
 mod common;
 mod events;
 mod extended;
@@ -87,15 +88,24 @@ pub enum CommonCommand {
     NoCommon,
 }
 
-// The commands after 1D.
+// The bits of a register that commands set and clear.
+pub enum Bit {
+    Three,
+    Four,
+    Five,
+}
+
+// The commands after 1D; a pulse is on a bit of a port's latch.
 pub enum ExtendedCommand {
-    PulseC5,
-    PulseD3,
-    PulseD4 { unit: u8, wait: u8 },
-    SetPortd5,
-    ClearPortd5,
-    SetDdrd5,
-    ClearDdrd5,
+    PulseUp(PortRegister, Bit),
+    PulseDown {
+        latch: PortRegister,
+        bit: Bit,
+        unit: u8,
+        wait: u8,
+    },
+    SetBit(PortRegister, Bit),
+    ClearBit(PortRegister, Bit),
     LoadCycles,
     ReadCycles,
     NoExtended,

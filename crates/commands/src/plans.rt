@@ -10,6 +10,7 @@ use registers::State;
 use registers::Wait;
 use signals::Waveform;
 
+// A plan as a call, since an arm of a match is proved by its callee's contract.
 pub(crate) fn make(s: State, wave: Waveform, answer: Answer) -> Plan
     ensures { λ r. ⌜ r ≡ plan s wave answer ⌝ }
 {

@@ -8,12 +8,14 @@ ghost use Rattle.commands.specs.Replies.{replyBytes};
 use crate::Reply;
 use registers::State;
 
+// An array's length is read through a slice, so that no size stands here as a number.
 fn size(bytes: &[u8]) -> usize
     ensures { λ n. ⌜ n ≡ length (now (bytes .entry)) ⌝ }
 {
     bytes.len()
 }
 
+// The timings' and the packet register's size: an array that is a field is lent from a parameter.
 fn timings_size(bytes: [u8; registers::TIMINGS]) -> usize
     ensures { λ n. ⌜ n ≡ length bytes ⌝ }
 {

@@ -6,22 +6,22 @@ use native.Mathlib.Omega.{arith}
 use borrow.Author.Tests.{lt-ltb, le-leb, eq-eqb, ltb-true, leb-true, eqb-true}
 use lib.Dec.{eqb, leb, ltb}
 use Rattle.packet.specs.Packet.{width, packetBytes}
-use Rattle.registers.specs.Registers.{Page, State, Wait, Packet, Timings, spiSelected, wireSelected, bitsIn}
-use Rattle.registers.specs.Ranges.{selectedCount, waitFits, pageFits, PageInRange, InRange, RangeTest}
+use Rattle.registers.specs.Registers.{Page, State, Operand, ToPort, ToCycles, ToI2c, ToConfig, ToSize, ToWire, ToWireBit, ToWireStrong, Wait, Nothing, One, Extended, Packet, Timings, spiSelected, wireSelected, bitsIn}
+use Rattle.registers.specs.Ranges.{selectedCount, operandFits, waitFits, pageFits, PageInRange, OperandInRange, WaitInRange, InRange, RangeTest}
 
 -- ceil(N/8) by the size register
 pub most-left : (size : ℕ) → size / 8 + 1 ≡ packetBytes (size + 1)
 most-left size = omega arith
 
-pub both-left : (a b : Bool) → a && b ≡ true → a ≡ true
+both-left : (a b : Bool) → a && b ≡ true → a ≡ true
 both-left true b e = refl
 both-left false b e = e
 
-pub both-right : (a b : Bool) → a && b ≡ true → b ≡ true
+both-right : (a b : Bool) → a && b ≡ true → b ≡ true
 both-right true b e = e
 both-right false b e = absurd (false≢true e)
 
-pub both : {a b : Bool} → a ≡ true → b ≡ true → a && b ≡ true
+both : {a b : Bool} → a ≡ true → b ≡ true → a && b ≡ true
 both p q = rw (p, q)
 
 module _ (p : Page) where
@@ -57,29 +57,68 @@ module _ (p : Page) where
       both (both (both (both (both (both (both (le-leb _ _ (r .one-interface)) (lt-ltb _ _ (r .flag-bits))) (lt-ltb _ _ (r .size-register))) (le-leb _ _ (r .configuration))) (lt-ltb _ _ (r .c-direction))) (lt-ltb _ _ (r .c-latch))) (eq-eqb _ _ (r .d-direction)))
       (eq-eqb _ _ (r .d-latch))
 
+-- A WAIT
+
+operand-facts : (o : Operand) (flags : ℕ) → operandFits o flags ≡ true → OperandInRange o flags
+operand-facts (ToPort r) flags e = tt
+operand-facts ToCycles flags e = tt
+operand-facts ToI2c flags e = e
+operand-facts ToConfig flags e = e
+operand-facts ToSize flags e = e
+operand-facts ToWire flags e = e
+operand-facts ToWireBit flags e = e
+operand-facts ToWireStrong flags e = e
+
+operand-tested : (o : Operand) (flags : ℕ) → OperandInRange o flags → operandFits o flags ≡ true
+operand-tested (ToPort r) flags e = refl
+operand-tested ToCycles flags e = refl
+operand-tested ToI2c flags e = e
+operand-tested ToConfig flags e = e
+operand-tested ToSize flags e = e
+operand-tested ToWire flags e = e
+operand-tested ToWireBit flags e = e
+operand-tested ToWireStrong flags e = e
+
+wait-facts : (w : Wait) (flags : ℕ) (configured : Bool) (n : ℕ) → waitFits w flags configured n ≡ true → WaitInRange w flags configured n
+wait-facts Nothing flags configured n e = tt
+wait-facts (One o) flags configured n e = operand-facts o flags e
+wait-facts Extended flags configured n e = tt
+wait-facts (Packet left exchange) flags configured n e =
+    let a = spiSelected flags in
+    let b = configured in
+    let c = leb 1 left in
+    let d = leb left (packetBytes n) in
+    let e2 = both-left (a && b && c) d e in
+    let e1 = both-left (a && b) c e2 in
+    record { spi-selected = both-left a b e1; spi-configured = both-right a b e1; one-or-more = leb-true _ _ (both-right (a && b) c e2); packet-or-less = leb-true _ _ (both-right (a && b && c) d e) }
+wait-facts (Timings left) flags configured n e =
+    let a = wireSelected flags in
+    let b = leb 1 left in
+    let c = leb left 9 in
+    let e1 = both-left (a && b) c e in
+    record { wire-selected = both-left a b e1; one-or-more = leb-true _ _ (both-right a b e1); nine-or-less = leb-true _ _ (both-right (a && b) c e) }
+
+wait-tested : (w : Wait) (flags : ℕ) (configured : Bool) (n : ℕ) → WaitInRange w flags configured n → waitFits w flags configured n ≡ true
+wait-tested Nothing flags configured n r = refl
+wait-tested (One o) flags configured n r = operand-tested o flags r
+wait-tested Extended flags configured n r = refl
+wait-tested (Packet left exchange) flags configured n r = both (both (both (r .spi-selected) (r .spi-configured)) (le-leb _ _ (r .one-or-more))) (le-leb _ _ (r .packet-or-less))
+wait-tested (Timings left) flags configured n r = both (both (r .wire-selected) (le-leb _ _ (r .one-or-more))) (le-leb _ _ (r .nine-or-less))
+
 pub range-test : (s : State) → RangeTest s
 range-test s =
     let w = waitFits (s .wait) (s .page .flags) (s .page .configured) (bitsIn (s .page)) in (
-      λ e. record { page = facts (s .page) (both-left (pageFits (s .page)) w e); wait = both-right (pageFits (s .page)) w e },
-      λ r. both (tested (s .page) (r .page)) (r .wait),
+      λ e. record { page = facts (s .page) (both-left (pageFits (s .page)) w e); wait = wait-facts (s .wait) _ _ _ (both-right (pageFits (s .page)) w e) },
+      λ r. both (tested (s .page) (r .page)) (wait-tested (s .wait) _ _ _ (r .wait)),
     )
 
--- WHAT A WAIT'S FACT SAYS
+-- WHAT A WAIT'S FACTS SAY, where the wait is known
 
-pub wait-as : (s : State) (w : Wait) → InRange s → s .wait ≡ w → waitFits w (s .page .flags) (s .page .configured) (bitsIn (s .page)) ≡ true
-wait-as s w r e = subst (λ (v : Wait). waitFits v (s .page .flags) (s .page .configured) (bitsIn (s .page)) ≡ true) e (r .wait)
+pub wait-as : (s : State) (w : Wait) → InRange s → s .wait ≡ w → WaitInRange w (s .page .flags) (s .page .configured) (bitsIn (s .page))
+wait-as s w r e = subst (λ (v : Wait). WaitInRange v (s .page .flags) (s .page .configured) (bitsIn (s .page))) e (r .wait)
 
 pub packet-left : (s : State) (left : ℕ) (exchange : Bool) → InRange s → s .wait ≡ Packet left exchange → (s .page .size < width) × (1 ≤ left) × (left ≤ s .page .size / 8 + 1)
-packet-left s left exchange r e =
-    let a = spiSelected (s .page .flags) in
-    let b = s .page .configured in
-    let most = packetBytes (bitsIn (s .page)) in
-    let t = wait-as s (Packet left exchange) r e in
-    let u = leb-true left most (both-right (a && b && leb 1 left) (leb left most) t) in
-    (r .page .size-register, leb-true 1 left (both-right (a && b) (leb 1 left) (both-left (a && b && leb 1 left) (leb left most) t)), omega (arith, most-left (s .page .size)))
+packet-left s left exchange r e = let t = wait-as s (Packet left exchange) r e in (r .page .size-register, t .one-or-more, omega (arith, most-left (s .page .size), t .packet-or-less))
 
 pub timings-left : (s : State) (left : ℕ) → InRange s → s .wait ≡ Timings left → (1 ≤ left) × (left ≤ 9)
-timings-left s left r e =
-    let a = wireSelected (s .page .flags) in
-    let t = wait-as s (Timings left) r e in
-    (leb-true 1 left (both-right a (leb 1 left) (both-left (a && leb 1 left) (leb left 9) t)), leb-true left 9 (both-right (a && leb 1 left) (leb left 9) t))
+timings-left s left r e = let t = wait-as s (Timings left) r e in (t .one-or-more, t .nine-or-less)

@@ -53,9 +53,38 @@ pub record Ranges (flags size config ddrc portc ddrd portd : ℕ) : Type 0 where
 abbrev pub PageInRange : Page → Type 0
 PageInRange p = Ranges (p .flags) (p .size) (p .config) (p .ddrc) (p .portc) (p .ddrd) (p .portd)
 
+-- a wait for an operand is of a selected interface
+abbrev pub OperandInRange : Operand → ℕ → Type 0
+OperandInRange (ToPort r) flags = Unit {0}
+OperandInRange ToCycles flags = Unit {0}
+OperandInRange ToI2c flags = i2cSelected flags ≡ true
+OperandInRange ToConfig flags = spiSelected flags ≡ true
+OperandInRange ToSize flags = spiSelected flags ≡ true
+OperandInRange ToWire flags = wireSelected flags ≡ true
+OperandInRange ToWireBit flags = wireSelected flags ≡ true
+OperandInRange ToWireStrong flags = wireSelected flags ≡ true
+
+pub record PacketWait (flags : ℕ) (configured : Bool) (n left : ℕ) : Type 0 where
+  pub spi-selected : spiSelected flags ≡ true
+  pub spi-configured : configured ≡ true
+  pub one-or-more : 1 ≤ left
+  pub packet-or-less : left ≤ packetBytes n
+
+pub record TimingWait (flags left : ℕ) : Type 0 where
+  pub wire-selected : wireSelected flags ≡ true
+  pub one-or-more : 1 ≤ left
+  pub nine-or-less : left ≤ 9
+
+abbrev pub WaitInRange : Wait → ℕ → Bool → ℕ → Type 0
+WaitInRange Nothing flags configured n = Unit {0}
+WaitInRange (One o) flags configured n = OperandInRange o flags
+WaitInRange Extended flags configured n = Unit {0}
+WaitInRange (Packet left exchange) flags configured n = PacketWait flags configured n left
+WaitInRange (Timings left) flags configured n = TimingWait flags left
+
 pub record InRange (s : State) : Type 0 where
   pub page : PageInRange (s .page)
-  pub wait : waitFits (s .wait) (s .page .flags) (s .page .configured) (bitsIn (s .page)) ≡ true
+  pub wait : WaitInRange (s .wait) (s .page .flags) (s .page .configured) (bitsIn (s .page))
 
 -- THEOREM (proofs/InRange.antt, `range-test`): the test says exactly these facts
 abbrev pub RangeTest : State → Type 0

@@ -1,9 +1,9 @@
 -- The waveforms of I2C (01, "I2C").
-use Prim.Native.Nat.{ℕ, _-_}
+use Prim.Native.Nat.{ℕ}
 use mathlib.Core.List.{List, [], _∷_, _++_}
 use Rattle.wire.specs.Action.{Action, action, scl, sda}
 use Rattle.packet.specs.Register.{byteBits, zeros}
-use Rattle.signals.specs.Lines.{released, low, sampled, each}
+use Rattle.signals.specs.Lines.{released, low, sampled, openVerb, each}
 
 -- 20: "SDA release, SCL release, SDA low, SCL low"
 abbrev pub i2cStart : List Action
@@ -13,9 +13,9 @@ i2cStart = released sda ∷ released scl ∷ low sda ∷ low scl ∷ []
 abbrev pub i2cStop : List Action
 i2cStop = low sda ∷ released scl ∷ released sda ∷ []
 
--- a bit: "SDA low or release, SCL release, SCL low"; verb 0 releases and 1 drives low
+-- a bit: "SDA low or release, SCL release, SCL low"
 abbrev pub i2cBit : ℕ → List Action
-i2cBit b = action (1 - b) sda 0 ∷ released scl ∷ low scl ∷ []
+i2cBit b = action (openVerb b) sda 0 ∷ released scl ∷ low scl ∷ []
 
 -- "SDA release, SCL release, sample SDA, SCL low"
 abbrev pub i2cSampled : List Action

@@ -3,3 +3,5 @@ pub mod I2c
 pub mod Spi
 pub mod OneWire
 pub mod Waveforms
+pub mod Counts
+pub mod Sensed

@@ -3,7 +3,8 @@ use Prim.Native.Nat.{ℕ, zero, suc, _+_}
 use mathlib.Core.List.{List, [], _∷_, _++_}
 use Rattle.packet.specs.Register.{number}
 use Rattle.packet.specs.Packet.{order}
-use mathlib.Core.Bool.{Bool}
+use mathlib.Core.Bool.{Bool, cond}
+use lib.Dec.{eqb}
 use Rattle.wire.specs.Action.{Action, action, release, driveLow, driveHigh, sampleLine, waitMicroseconds, setDirection, setLatch, portB, portC, portD, noLine}
 use Rattle.wire.specs.Sample.{levelAt}
 
@@ -23,9 +24,16 @@ sampled line = action sampleLine line 0
 abbrev pub waits : ℕ → Action
 waits n = action waitMicroseconds noLine n
 
--- a line driven low for 0, high for 1
+-- the verb for a bit on a line that is never driven high: low for 0, release for 1
+abbrev pub openVerb : ℕ → ℕ
+openVerb bit = cond (eqb bit 0) driveLow release
+
+-- the verb for a bit on a line that is driven: low for 0, high for 1
+abbrev pub drivenVerb : ℕ → ℕ
+drivenVerb bit = cond (eqb bit 0) driveLow driveHigh
+
 abbrev pub driven : ℕ → ℕ → Action
-driven line level = action (1 + level) line 0
+driven line bit = action (drivenVerb bit) line 0
 
 -- what f gives for each of a list, in a row
 unfoldable pub each : (ℕ → List Action) → List ℕ → List Action

@@ -1,8 +1,7 @@
 -- Every waveform by name: its actions, how many samples it uses, and what they give. The names are declared in src/lib.rt.
-use Prim.Native.Nat.{ℕ, _+_, _*_}
+use Prim.Native.Nat.{ℕ}
 use mathlib.Core.Bool.{true, false}
 use mathlib.Core.List.{List, [], _∷_, _++_}
-use lib.ListN.{length}
 use Rattle.packet.specs.Register.{register}
 use Rattle.packet.specs.Packet.{width, registerBytes, received}
 use Rattle.registers.specs.Registers.{highFirst, bitsIn}
@@ -15,7 +14,6 @@ use Rattle.signals.specs.Spi.{exchange}
 use Rattle.signals.specs.OneWire.{resetWaits, writeWaits, readWaits, sampleSlot, wireWrite, wireRead}
 pub use Rattle.signals.specs.declared.Waveform.{Waveform}
 pub use Rattle.signals.specs.declared.Waveform.the-variants.{Still, Reinit, ReinitHigh, Line, Port, Strobe, PortPulse, Pb7Pulse, SampleLine, SamplePort, Start, Stop, WriteI2c, ReadI2c, Exchange, ResetWire, WriteWire, WriteWireBit, WriteWireStrong, ReadWire, ReadWireBit}
-pub use Rattle.signals.specs.declared.Sensed.{Sensed}
 
 -- the actions, the samples used, the byte that they give (a single sample as it stands), and the packet register after them
 pub record Wave : Type 0 where
@@ -64,31 +62,3 @@ waveOf p (WriteWireBit x) ss s = quiet p (wireWrite (writeWaits (p .timings)) 1 
 waveOf p (WriteWireStrong x) ss s = quiet p (wireWrite (writeWaits (p .timings)) 8 driveHigh x)
 waveOf p ReadWire ss s = giving p (wireRead (readWaits (p .timings)) 8) 8 (byteOf false (levels ss s 8))
 waveOf p ReadWireBit ss s = once p (wireRead (readWaits (p .timings)) 1) ss s
-
--- what is known of a waveform before anything is written: the bytes of its actions, the samples used and what they give
-abbrev pub senseOf : Wave → Sensed
-senseOf w = record { used = w .used; bytes = 4 * length (w .actions); byte = w .byte; packet = w .packet }
-
--- how many actions a waveform is; none depends on samples (proofs/Counts.antt, `action-count`)
-abbrev pub actionCount : Page → Waveform → ℕ
-actionCount p Still = 0
-actionCount p Reinit = 6
-actionCount p (ReinitHigh line) = 7
-actionCount p (Line verb line) = 1
-actionCount p (Port verb line x) = 1
-actionCount p (Strobe x n y) = 3
-actionCount p (PortPulse line x verb n y) = 3
-actionCount p (Pb7Pulse verb n) = 3
-actionCount p (SampleLine line) = 1
-actionCount p (SamplePort line) = 1
-actionCount p Start = 4
-actionCount p Stop = 3
-actionCount p (WriteI2c x) = 28
-actionCount p (ReadI2c answer) = 35
-actionCount p Exchange = 1 + 4 * bitsIn p
-actionCount p ResetWire = 6
-actionCount p (WriteWire x) = 48
-actionCount p (WriteWireBit x) = 6
-actionCount p (WriteWireStrong x) = 48
-actionCount p ReadWire = 48
-actionCount p ReadWireBit = 6

@@ -10,7 +10,8 @@ ghost use Rattle.packet.specs.Packet.{width, registerBytes, received};
 ghost use Rattle.registers.specs.Registers.{highFirst, bitsIn};
 ghost use Rattle.signals.specs.Lines.{levels, byteOf};
 ghost use Rattle.signals.specs.Spi.{exchange};
-ghost use Rattle.signals.specs.Waveforms.{waveOf, senseOf};
+ghost use Rattle.signals.specs.Waveforms.{waveOf};
+ghost use Rattle.signals.specs.Sensed.{senseOf};
 use packet::Register;
 use registers::Page;
 

@@ -1,11 +1,11 @@
 // Rows of actions on ports and single lines.
 ghost use mathlib.Core.Path.{_≡_};
-ghost use Prim.Native.Nat.{_+_, _-_, _≤_};
+ghost use Prim.Native.Nat.{_+_, _≤_};
 ghost use mathlib.Core.List.{[], _∷_, _++_};
 ghost use lib.ListN.{length};
 ghost use Rattle.wire.specs.Action.{action, bytesOf, setDirection, setLatch, waitCycles, portD, pb7, noLine};
 ghost use Rattle.wire.specs.Buffer.{Written};
-ghost use Rattle.signals.specs.Lines.{low, high, reinit};
+ghost use Rattle.signals.specs.Lines.{low, high, openVerb, drivenVerb, reinit};
 
 const LOW: u8 = wire::VERB_DRIVE_LOW;
 
@@ -13,14 +13,18 @@ const HIGH: u8 = wire::VERB_DRIVE_HIGH;
 
 const LATCH: u8 = wire::VERB_LATCH;
 
-// The verb that puts a bit on a line that is released or driven low.
-pub(crate) fn verb_for(bit: u8) -> u8
-    ensures { λ r. ⌜ r ≡ 1 - bit ⌝ }
+// The verb for a bit on a line that is never driven high.
+pub(crate) fn open_verb(bit: u8) -> u8
+    ensures { λ r. ⌜ r ≡ openVerb bit ⌝ }
 {
-    if bit == 0 {
-        return LOW;
-    }
-    wire::VERB_RELEASE
+    if bit == 0 { LOW } else { wire::VERB_RELEASE }
+}
+
+// The verb for a bit on a line that is driven.
+pub(crate) fn driven_verb(bit: u8) -> u8
+    ensures { λ r. ⌜ r ≡ drivenVerb bit ⌝ }
+{
+    if bit == 0 { LOW } else { HIGH }
 }
 
 // A port's direction and then its latch, both 0.

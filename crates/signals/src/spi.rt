@@ -6,6 +6,7 @@ ghost use Rattle.wire.specs.Buffer.{Written};
 ghost use Rattle.packet.specs.Packet.{width, sent};
 ghost use Rattle.signals.specs.Lines.{each};
 ghost use Rattle.signals.specs.Spi.{spiBit, exchange};
+use crate::lines;
 use packet::Register;
 use registers::Page;
 
@@ -22,15 +23,16 @@ fn put_bit(out: &mut [u8], at: usize, polarity: u8, phase: bool, bit: u8) -> usi
     requires { ⌜ (at + 16 ≤ length (now out)) × ((polarity < 2) × (bit < 2)) ⌝ }
     ensures { λ next. ⌜ Written (now (out .entry)) at (bytesOf (spiBit polarity phase bit)) (now (out .exit)) next ⌝ }
 {
-    let away = 1 + (1 - polarity);
-    let back = 1 + polarity;
+    let away = lines::driven_verb(1 - polarity);
+    let back = lines::driven_verb(polarity);
+    let data = lines::driven_verb(bit);
     if phase {
         let a = wire::put_action(out, at, away, SCK, 0);
-        let b = wire::put_action(out, a, 1 + bit, MOSI, 0);
+        let b = wire::put_action(out, a, data, MOSI, 0);
         let c = wire::put_action(out, b, back, SCK, 0);
         return wire::put_action(out, c, SAMPLE, MISO, 0);
     }
-    let d = wire::put_action(out, at, 1 + bit, MOSI, 0);
+    let d = wire::put_action(out, at, data, MOSI, 0);
     let e = wire::put_action(out, d, away, SCK, 0);
     let f = wire::put_action(out, e, SAMPLE, MISO, 0);
     wire::put_action(out, f, back, SCK, 0)
@@ -69,6 +71,6 @@ pub(crate) fn put_exchange(out: &mut [u8], page: Page) -> usize
     let phase = page.config % 2 == 1;
     let polarity = page.config / 2 % 2;
     let high = page.config / 4 % 2 == 1;
-    let at = wire::put_action(out, 0, 1 + polarity, SCK, 0);
+    let at = wire::put_action(out, 0, lines::driven_verb(polarity), SCK, 0);
     put_bits(out, at, r, n, high, polarity, phase)
 }

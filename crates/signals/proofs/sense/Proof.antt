@@ -8,7 +8,8 @@ use Rattle.registers.specs.declared.Page.{Page}
 use Rattle.signals.specs.Lines.{each}
 use Rattle.signals.specs.I2c.{i2cWrite, i2cRead}
 use Rattle.signals.specs.OneWire.{wireWrite, wireRead}
-use Rattle.signals.specs.Waveforms.{Waveform, Sensed, waveOf, senseOf}
+use Rattle.signals.specs.Waveforms.{Waveform, waveOf}
+use Rattle.signals.specs.Sensed.{Sensed, senseOf}
 use Rattle.signals.proofs.sense.Statement.{statement}
 use Rattle.signals.proofs.sense.Tie as tie
 

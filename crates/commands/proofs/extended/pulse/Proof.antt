@@ -1,0 +1,12 @@
+-- The latch keeps the last level.
+use borrow.Author.Needs.{needs}
+use Rattle.commands.proofs.extended.pulse.Statement.{statement}
+use Rattle.commands.proofs.extended.pulse.Tie as tie
+
+pub pulse-spec : {M : Type 1} → statement M
+pulse-spec =
+    tie.close
+    (tie.spec
+    (λ c κs. search needs)
+    (λ c κs. search needs)
+    (λ c. rw (← c .before .port-line .ensures) (c .storing .ensures)))
