@@ -33,7 +33,7 @@ or-false false h = refl
 data-calm : (xs : List ℕ) → isRejected (map sent xs) ≡ false
 data-calm xs = ap anyRejecting (codes-sent xs)
 
-calm-said : (s : State) (n : ℕ) (a : Answer) → calm a ≡ true → isRejected (saidOf s n a) ≡ false
+pub calm-said : (s : State) (n : ℕ) (a : Answer) → calm a ≡ true → isRejected (saidOf s n a) ≡ false
 unfolding codesOf
 calm-said s n Silent h = refl
 calm-said s n (Returns code) h = or-false (rejects code) h

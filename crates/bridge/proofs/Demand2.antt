@@ -1,0 +1,58 @@
+-- Demand 2: what a call not refused gives. Assumes nothing.
+use Prim.Native.Nat.{ℕ, _+_, _*_, _≤_}
+use mathlib.Core.Path.{_≡_, refl, sym, ap, _∙_}
+use mathlib.Core.Bool.{true}
+use mathlib.Core.List.{List, []}
+use lib.ListN.{length}
+use Rattle.wire.specs.Action.{Action, bytesOf}
+use Rattle.wire.specs.Buffer.{overwrite}
+use Rattle.wire.proofs.Actions.{bytes-length}
+use Rattle.wire.proofs.Buffers.{overwrite-right, overwrite-none}
+use Rattle.registers.specs.declared.Event.{Event}
+use Rattle.commands.specs.Said.{isRejected}
+use Rattle.commands.specs.Plans.{sentBy}
+use Rattle.commands.proofs.Rejects.{event-rejects}
+use Rattle.bridge.specs.Calls.{Bridge, Actions, Replies, Taken, Lent, Given, effect, taken, answerOf}
+use Rattle.bridge.specs.Demands.{filled, OnlyErrorChanged, Demand2}
+use Rattle.bridge.proofs.Ways.{room, Went, refused-for, was-taken, went}
+use Rattle.bridge.proofs.Demand1.{not-taken, demand-1}
+
+module _ (b : Bridge) (e : Event) (l : Lent) where
+  gives : (g : Given) → Went b e l g → g .answer .outcome ≡ Taken → g ≡ taken (effect b e l) l
+  gives g (refused-for r w) z = not-taken z
+  gives g (was-taken n) z = refl
+
+  module _ (z : (answerOf b e l) .answer .outcome ≡ Taken) where
+    is : answerOf b e l ≡ taken (effect b e l) l
+    is = gives (answerOf b e l) (went b e l) z
+
+    fill : (bytes : List ℕ) (mark : ℕ) (xs : List ℕ) → mark + length xs ≤ length bytes → overwrite bytes mark xs ≡ filled bytes mark xs
+    fill bytes mark xs h = overwrite-right bytes mark xs .parts h
+
+    acts-fit : l .acted + length (bytesOf ((effect b e l) .actions)) ≤ length (l .actions)
+    acts-fit = room (l .actions) (l .acted) _ (demand-1 b e l .taken-otherwise .0 z Actions)
+
+    replies-fit : l .replied + length (sentBy (effect b e l)) ≤ length (l .replies)
+    replies-fit = room (l .replies) (l .replied) _ (demand-1 b e l .taken-otherwise .0 z Replies)
+
+    only-error : isRejected ((effect b e l) .said) ≡ true → OnlyErrorChanged b e l
+    only-error h =
+        let x = event-rejects (b .state) e (l .samples) (l .sampled) h in
+        record {
+          code = x .code;
+          state = ap (λ (g : Given). g .answer .bridge .state) is ∙ x .state;
+          no-action = ap (λ (g : Given). g .answer .actions) is ∙ ap length (x .actions);
+          no-sample = ap (λ (g : Given). g .answer .samples) is ∙ x .used;
+          pins = ap (λ (g : Given). g .actions) is ∙ ap (λ (k : List Action). overwrite (l .actions) (l .acted) (bytesOf k)) (x .actions) ∙ overwrite-none (l .actions) (l .acted);
+        }
+
+  pub demand-2 : Demand2 b e l
+  demand-2 = record {
+    gives = is;
+    actions-written = λ z. ap (λ (g : Given). g .actions) (is z) ∙ fill z (l .actions) (l .acted) (bytesOf ((effect b e l) .actions)) (acts-fit z);
+    replies-written = λ z. ap (λ (g : Given). g .replies) (is z) ∙ fill z (l .replies) (l .replied) (sentBy (effect b e l)) (replies-fit z);
+    actions-counted = λ z. ap (λ (g : Given). 4 * g .answer .actions) (is z) ∙ sym (bytes-length ((effect b e l) .actions));
+    replies-counted = λ z. ap (λ (g : Given). g .answer .replies) (is z);
+    samples-counted = λ z. ap (λ (g : Given). g .answer .samples) (is z);
+    rejected = only-error;
+  }

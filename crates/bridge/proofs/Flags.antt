@@ -1,0 +1,58 @@
+-- What the flags say of the interface. Assumes nothing.
+use Prim.Native.Nat.{ℕ, _+_, _*_, _/_, _%_, _≤_}
+use mathlib.Core.Path.{_≡_, refl, sym, _∙_, ap}
+use mathlib.Core.Bool.{Bool, true, false, cond}
+use native.Mathlib.Omega.{arith}
+use borrow.Author.Tests.{eqb-true}
+use lib.Dec.{eqb}
+use Rattle.grammar.specs.Grammar.{numberOf}
+use Rattle.grammar.specs.declared.Interface.{Interface}
+use Rattle.grammar.specs.declared.Interface.the-variants.{NoInterface, I2C, SPI, OneWire}
+use Rattle.registers.specs.Registers.{i2cSelected, spiSelected, wireSelected}
+use Rattle.registers.specs.Ranges.{selectedCount}
+use Rattle.bridge.specs.Views.{interfaceOf}
+
+-- THE THREE LOW BITS say it, so a command that leaves them leaves the interface
+
+abbrev choose : Bool → Bool → Bool → Interface
+choose a b c = cond a I2C (cond b SPI (cond c OneWire NoInterface))
+
+same-bit : (x d n : ℕ) → x ≡ d * 2 + n → x % 2 ≡ n % 2
+same-bit x d n h = omega arith
+
+low-bits : (d n : ℕ) → interfaceOf (d * 8 + n) ≡ interfaceOf n
+low-bits d n =
+    let p = same-bit (d * 8 + n) (d * 4) n (omega arith) in
+    let q = same-bit ((d * 8 + n) / 2) (d * 2) (n / 2) (omega arith) in
+    let r = same-bit ((d * 8 + n) / 4) d (n / 4) (omega arith) in
+    λ i. choose (eqb (p i) 1) (eqb (q i) 1) (eqb (r i) 1)
+
+pub same-interface : (f g : ℕ) → f % 8 ≡ g % 8 → interfaceOf f ≡ interfaceOf g
+same-interface f g h =
+    let p : f ≡ f / 8 * 8 + f % 8 = omega arith in
+    let q : g / 8 * 8 + f % 8 ≡ g = omega arith in
+    ap interfaceOf p ∙ low-bits (f / 8) (f % 8) ∙ sym (low-bits (g / 8) (f % 8)) ∙ ap interfaceOf q
+
+-- A FLAG IS SET exactly if its interface is the one selected
+pub record OneSelected (flags : ℕ) : Type 0 where
+  pub i2c : i2cSelected flags ≡ eqb (numberOf (interfaceOf flags)) (numberOf I2C)
+  pub spi : spiSelected flags ≡ eqb (numberOf (interfaceOf flags)) (numberOf SPI)
+  pub wire : wireSelected flags ≡ eqb (numberOf (interfaceOf flags)) (numberOf OneWire)
+
+-- the same of three Booleans
+abbrev Apart : Bool → Bool → Bool → Type 0
+Apart a b c = (a ≡ eqb (numberOf (choose a b c)) 1) × (b ≡ eqb (numberOf (choose a b c)) 2) × (c ≡ eqb (numberOf (choose a b c)) 3)
+
+apart : (x y z : ℕ) → x + y + z ≤ 1 → (a b c : Bool) → eqb x 1 ≡ a → eqb y 1 ≡ b → eqb z 1 ≡ c → Apart a b c
+apart x y z h true true c p q r = let i = eqb-true x 1 p in let j = eqb-true y 1 q in absurd (omega arith)
+apart x y z h true false true p q r = let i = eqb-true x 1 p in let j = eqb-true z 1 r in absurd (omega arith)
+apart x y z h true false false p q r = (refl, refl, refl)
+apart x y z h false true true p q r = let i = eqb-true y 1 q in let j = eqb-true z 1 r in absurd (omega arith)
+apart x y z h false true false p q r = (refl, refl, refl)
+apart x y z h false false true p q r = (refl, refl, refl)
+apart x y z h false false false p q r = (refl, refl, refl)
+
+pub one-selected : (flags : ℕ) → selectedCount flags ≤ 1 → OneSelected flags
+one-selected flags h =
+    let t = apart (flags % 2) (flags / 2 % 2) (flags / 4 % 2) h (i2cSelected flags) (spiSelected flags) (wireSelected flags) refl refl refl in
+    record { i2c = t .0; spi = t .1; wire = t .2 }

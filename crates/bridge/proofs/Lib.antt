@@ -1,0 +1,16 @@
+-- A byte's effect agrees with the grammar's scanner, and the laws that this needs.
+pub mod View
+pub mod Flags
+pub mod Openings
+pub mod Plans
+pub mod Between
+pub mod Inside
+pub mod Agrees
+pub mod Ways
+pub mod Demand1
+pub mod Demand2
+pub mod Demand3
+pub mod Readies
+pub mod Answers
+pub mod Judges
+pub mod Edges

@@ -1,0 +1,65 @@
+-- What is ready after planning, sensing, receiving and settling is the event's effect. Assumes nothing.
+use Prim.Native.Nat.{ℕ, _<_}
+use mathlib.Core.Path.{_≡_, refl, sym, ap, _∙_, subst, subst⁻¹}
+use mathlib.Core.List.{List}
+use lib.ListN.{length}
+use Rattle.packet.specs.Packet.{width}
+use Rattle.registers.specs.Ranges.{InRange}
+use Rattle.registers.specs.declared.State.{State}
+use Rattle.registers.specs.declared.Event.{Event}
+use Rattle.signals.specs.Waveforms.{waveOf}
+use Rattle.signals.specs.Sensed.{senseOf}
+use Rattle.signals.specs.declared.Sensed.{Sensed}
+use Rattle.commands.specs.Plans.{saidOf, received, carriedOut}
+use Rattle.commands.specs.Events.{planOf, effectOf}
+use Rattle.commands.specs.Replies.{replyBytes, Settlement, settlement, settlementOf}
+use Rattle.commands.specs.declared.Plan.{Plan}
+use Rattle.commands.specs.declared.Settled.{Settled}
+use Rattle.commands.proofs.KeptParts.{Kept}
+use Rattle.commands.proofs.Keeps.{plan-keeps}
+use Rattle.bridge.specs.Prepared.{Ready, Prepared}
+
+module _ (s : State) (e : Event) (ss : List ℕ) (m : ℕ) (n : InRange s) where
+  pub plan-small : {p : Plan} → p ≡ planOf s e → p .state .page .size < width
+  unfolding Kept
+  plan-small q = subst⁻¹ (λ (p : Plan). p .state .page .size < width) q (plan-keeps s n e .page .size-register)
+
+  abbrev readyOf : Plan → Sensed → Settled → ℕ → Ready
+  readyOf p x t k = record { page = p .state .page; wave = p .wave; used = x .used; bytes = x .bytes; state = t .state; reply = t .reply; size = k }
+
+  -- what a plan and what was sensed settle to
+  abbrev settles : Plan → Sensed → Settlement
+  settles p x = settlementOf (received (p .state) (x .packet)) (saidOf (received (p .state) (x .packet)) (x .byte) (p .answer))
+
+  abbrev After : Plan → Type 0
+  After p = (x : Sensed) → x ≡ senseOf (waveOf (p .state .page) (p .wave) ss m)
+      → (q : State) → q ≡ received (p .state) (x .packet)
+      → (t : Settled) → settlement (t .state) (replyBytes (t .state) (t .reply)) ≡ settlementOf q (saidOf q (x .byte) (p .answer))
+      → (k : ℕ) → k ≡ length (replyBytes (t .state) (t .reply)) → Prepared s e ss m (readyOf p x t k)
+
+  planned : After (planOf s e)
+  unfolding effectOf carriedOut
+  planned x ex q eq t et k ek =
+      let p = planOf s e in
+      let g : settlement (t .state) (replyBytes (t .state) (t .reply)) ≡ settles p (senseOf (waveOf (p .state .page) (p .wave) ss m)) =
+          et ∙ ap (λ (r : State). settlementOf r (saidOf r (x .byte) (p .answer))) eq ∙ ap (settles p) ex in
+      record {
+        used = ap (λ (y : Sensed). y .used) ex;
+        bytes = ap (λ (y : Sensed). y .bytes) ex;
+        state = ap (λ (y : Settlement). y .state) g;
+        replies = ap (λ (y : Settlement). y .replies) g;
+        size = ek ∙ ap (λ (y : Settlement). length (y .replies)) g;
+        actions = refl;
+        page-small = plan-small refl;
+        state-small = subst⁻¹ (λ (r : State). r .page .size < width) (ap (λ (y : Settlement). y .state) g) (plan-small refl);
+      }
+
+  pub prepared : (p : Plan) → p ≡ planOf s e → After p
+  prepared p q = subst⁻¹ After q planned
+
+-- the size register is in no part that receiving or settling changes
+pub received-size : (s : State) (r : List ℕ) {q : State} → q ≡ received s r → q .page .size ≡ s .page .size
+received-size s r e = ap (λ (q : State). q .page .size) e
+
+pub settled-size : (q : State) (x : Settlement) {t : State} {xs : List ℕ} → settlement t xs ≡ x → t .page .size ≡ x .state .page .size
+settled-size q x e = ap (λ (y : Settlement). y .state .page .size) e

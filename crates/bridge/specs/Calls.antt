@@ -1,0 +1,80 @@
+-- What a call of the bridge gives (01, "What goes in and comes out", "Refusal numbers"). The contract of `step` says that it gives
+-- this, and the demands (Demands.antt) are about it.
+use Prim.Native.Nat.{ℕ}
+use mathlib.Core.Bool.{Bool, cond}
+use mathlib.Core.List.{List}
+use lib.ListN.{length}
+use Rattle.wire.specs.Action.{bytesOf}
+use Rattle.wire.specs.Buffer.{overwrite, fitsIn}
+use Rattle.registers.specs.Ranges.{stateFits}
+use Rattle.registers.specs.declared.State.{State}
+use Rattle.registers.specs.declared.Event.{Event}
+use Rattle.commands.specs.Plans.{Effect, sentBy}
+use Rattle.commands.specs.Events.{effectOf}
+pub use Rattle.bridge.specs.declared.Bridge.{Bridge}
+pub use Rattle.bridge.specs.declared.Refusal.{Refusal}
+pub use Rattle.bridge.specs.declared.Refusal.the-variants.{Ranges, Samples, Actions, Replies, Waits}
+pub use Rattle.bridge.specs.declared.Outcome.{Outcome}
+pub use Rattle.bridge.specs.declared.Outcome.the-variants.{Taken, Refused}
+pub use Rattle.bridge.specs.declared.Stepped.{Stepped}
+
+-- a refusal's number in the table
+abbrev pub numberOf : Refusal → ℕ
+numberOf Ranges = 1
+numberOf Samples = 2
+numberOf Actions = 3
+numberOf Replies = 4
+numberOf Waits = 12
+
+-- what a call is lent: samples, and a buffer each for actions and replies; each with its mark (01's term), the bytes of it used
+pub record Lent : Type 0 where
+  pub samples : List ℕ
+  pub sampled : ℕ
+  pub actions : List ℕ
+  pub acted : ℕ
+  pub replies : List ℕ
+  pub replied : ℕ
+
+abbrev pub lent : List ℕ → ℕ → List ℕ → ℕ → List ℕ → ℕ → Lent
+lent ss m as′ a rs r = record { samples = ss; sampled = m; actions = as′; acted = a; replies = rs; replied = r }
+
+-- what a call gives: its answer, and what it leaves in the two buffers
+pub record Given : Type 0 where
+  pub answer : Stepped
+  pub actions : List ℕ
+  pub replies : List ℕ
+
+abbrev pub given : Stepped → List ℕ → List ℕ → Given
+given x as′ rs = record { answer = x; actions = as′; replies = rs }
+
+-- "Each returns what it was given, with zero counts and lent memory untouched"
+abbrev pub refusal : Bridge → Refusal → Stepped
+refusal b why = record { bridge = b; outcome = Refused why; samples = 0; replies = 0; actions = 0 }
+
+abbrev pub refused : Bridge → Lent → Refusal → Given
+refused b l why = given (refusal b why) (l .actions) (l .replies)
+
+-- the event with what is lent
+abbrev pub effect : Bridge → Event → Lent → Effect
+effect b e l = effectOf (b .state) e (l .samples) (l .sampled)
+
+-- "The answer carries three counts: samples used, reply bytes, actions."
+abbrev pub taking : Effect → Stepped
+taking x = record { bridge = record { state = x .state }; outcome = Taken; samples = x .used; replies = length (sentBy x); actions = length (x .actions) }
+
+-- "Replies and actions of an event are written to the unused rest of a lent buffer"
+abbrev pub taken : Effect → Lent → Given
+taken x l = given (taking x) (overwrite (l .actions) (l .acted) (bytesOf (x .actions))) (overwrite (l .replies) (l .replied) (sentBy x))
+
+-- a call is refused unless a test says true
+abbrev pub unless : Bool → Given → Given → Given
+unless fits refusal rest = cond fits rest refusal
+
+-- "The lowest number that applies is given"
+unfoldable pub answerOf : Bridge → Event → Lent → Given
+answerOf b e l =
+    unless (stateFits (b .state)) (refused b l Ranges)
+    (unless (fitsIn (length (l .samples)) (l .sampled) ((effect b e l) .used)) (refused b l Samples)
+    (unless (fitsIn (length (l .actions)) (l .acted) (length (bytesOf ((effect b e l) .actions)))) (refused b l Actions)
+    (unless (fitsIn (length (l .replies)) (l .replied) (length (sentBy (effect b e l)))) (refused b l Replies)
+    (taken (effect b e l) l))))

@@ -1,0 +1,101 @@
+-- The three demands on the bridge's call, over the definition that the contract of `step` cites (Calls.antt). Open this file first.
+-- Proofs: `demand-1` in proofs/Demand1.antt, `demand-2` in proofs/Demand2.antt, `demand-3` in proofs/Demand3.antt.
+use Prim.Native.Nat.{ℕ, _+_, _-_, _*_, _<_}
+use mathlib.Core.Path.{_≡_}
+use mathlib.Core.Bool.{Bool, true, false}
+use mathlib.Core.List.{List, _++_}
+use mathlib.Core.Logic.{_↔_, _⊎_}
+use lib.ListN.{length, take, drop}
+use Rattle.wire.specs.Action.{bytesOf}
+use Rattle.registers.specs.Registers.{withPage, withError}
+use Rattle.registers.specs.Ranges.{InRange}
+use Rattle.registers.specs.declared.State.{State}
+use Rattle.registers.specs.declared.Event.{Event}
+use Rattle.registers.specs.declared.Event.the-variants as e
+use Rattle.registers.specs.declared.Wait.the-variants as v
+use Rattle.commands.specs.Said.{codesOf, isRejected}
+use Rattle.commands.specs.Plans.{sentBy}
+use Rattle.grammar.specs.Calls.{Machine, Call}
+use Rattle.grammar.specs.Calls as grammar
+use Rattle.bridge.specs.Calls.{Bridge, Refusal, Ranges, Samples, Actions, Replies, Waits, Outcome, Taken, Refused, numberOf, Lent, Given, effect, refused, taken, answerOf}
+use Rattle.bridge.specs.Views.{contextOf}
+
+abbrev pub outcome : Bridge → Event → Lent → Outcome
+outcome b e l = (answerOf b e l) .answer .outcome
+
+-- DEMAND 1: "Any event, in any state, with any lent samples and buffers, gets a fixed answer". The answer is a total function;
+-- what remains is exactly when each refusal is given.
+
+-- fewer are left after the mark than are needed; "A mark (in bytes) past the end .. even if nothing is needed"
+abbrev pub TooFew : List ℕ → ℕ → ℕ → Type 0
+TooFew bytes mark need = (length bytes < mark) ⊎ (length bytes - mark < need)
+
+-- the table of refusals: when each applies to a call
+abbrev pub Applies : Bridge → Event → Lent → Refusal → Type 0
+-- 1 "the state breaks its ranges"
+Applies b e l Ranges = ¬ InRange (b .state)
+-- 2 "fewer samples are left than the event uses"
+Applies b e l Samples = TooFew (l .samples) (l .sampled) ((effect b e l) .used)
+-- 3 "the actions do not fit"
+Applies b e l Actions = TooFew (l .actions) (l .acted) (length (bytesOf ((effect b e l) .actions)))
+-- 4 "the replies do not fit"
+Applies b e l Replies = TooFew (l .replies) (l .replied) (length (sentBy (effect b e l)))
+-- 12 is the judge's
+Applies b e l Waits = ⊥
+
+-- "The lowest number that applies is given"
+abbrev pub Lowest : Bridge → Event → Lent → Refusal → Type 0
+Lowest b e l r = Applies b e l r × ((q : Refusal) → numberOf q < numberOf r → ¬ Applies b e l q)
+
+pub record Demand1 (b : Bridge) (e : Event) (l : Lent) : Type 0 where
+  pub exactly-when : (r : Refusal) → (outcome b e l ≡ Refused r) ↔ Lowest b e l r
+  pub taken-otherwise : (outcome b e l ≡ Taken) ↔ ((r : Refusal) → ¬ Applies b e l r)
+  -- "the state it was given, no counts, and every lent byte unchanged"
+  pub leaves : (r : Refusal) → outcome b e l ≡ Refused r → answerOf b e l ≡ refused b l r
+
+-- DEMAND 2: for every event not refused, all is as the clauses of 01 say
+
+-- a buffer with bytes written from its mark; "bytes before and beyond are untouched"
+abbrev pub filled : List ℕ → ℕ → List ℕ → List ℕ
+filled bytes mark xs = take mark bytes ++ xs ++ drop (mark + length xs) bytes
+
+-- "A rejected byte changes the error register, nothing else of the state, and moves no pin."
+pub record OnlyErrorChanged (b : Bridge) (e : Event) (l : Lent) : Type 0 where
+  pub code : ℕ
+  pub state : (answerOf b e l) .answer .bridge .state ≡ withPage (b .state) (withError (b .state .page) code)
+  pub no-action : (answerOf b e l) .answer .actions ≡ 0
+  pub no-sample : (answerOf b e l) .answer .samples ≡ 0
+  pub pins : (answerOf b e l) .actions ≡ l .actions
+
+pub record Demand2 (b : Bridge) (e : Event) (l : Lent) : Type 0 where
+  pub gives : outcome b e l ≡ Taken → answerOf b e l ≡ taken (effect b e l) l
+  pub actions-written : outcome b e l ≡ Taken → (answerOf b e l) .actions ≡ filled (l .actions) (l .acted) (bytesOf ((effect b e l) .actions))
+  pub replies-written : outcome b e l ≡ Taken → (answerOf b e l) .replies ≡ filled (l .replies) (l .replied) (sentBy (effect b e l))
+  -- the counts are of what was written and used: four bytes an action, a byte a reply byte
+  pub actions-counted : outcome b e l ≡ Taken → 4 * (answerOf b e l) .answer .actions ≡ length (bytesOf ((effect b e l) .actions))
+  pub replies-counted : outcome b e l ≡ Taken → (answerOf b e l) .answer .replies ≡ length (sentBy (effect b e l))
+  pub samples-counted : outcome b e l ≡ Taken → (answerOf b e l) .answer .samples ≡ (effect b e l) .used
+  pub rejected : outcome b e l ≡ Taken → isRejected ((effect b e l) .said) ≡ true → OnlyErrorChanged b e l
+
+-- DEMAND 3: one statement about every list of calls that each hand over one byte, whatever is lent, refused ones included
+
+abbrev pub isRefused : Outcome → Bool
+isRefused Taken = false
+isRefused (Refused r) = true
+
+-- the bridge as the grammar's statement sees it: its calls are the answers of `step`, the bridge handed on as it was returned
+abbrev pub machine : Machine
+machine = record {
+  State = Bridge;
+  Lent = Lent;
+  Good = λ b. InRange (b .state);
+  Idle = λ b. b .state .wait ≡ v.Nothing;
+  context = λ b. contextOf (b .state);
+  refuses = λ b x l. isRefused (outcome b (e.Byte x) l);
+  codes = λ b x l. codesOf ((effect b (e.Byte x) l) .said);
+  next = λ b x l. (answerOf b (e.Byte x) l) .answer .bridge;
+}
+
+-- "A start between commands breaks no range and waits for nothing."
+abbrev pub Demand3 : Type 0
+Demand3 = (b : Bridge) → InRange (b .state) → b .state .wait ≡ v.Nothing → (ks : List (Call machine)) → grammar.Demand3 machine b ks

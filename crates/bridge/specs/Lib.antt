@@ -1,0 +1,6 @@
+pub mod Calls
+pub mod Views
+pub mod Judging
+pub mod Demands
+pub mod Edges
+pub mod Prepared

@@ -1,0 +1,24 @@
+-- For the contract of `prepare`, which measures an event before anything is written; 01 does not speak of it.
+use Prim.Native.Nat.{ℕ, _*_, _<_}
+use mathlib.Core.Path.{_≡_}
+use mathlib.Core.List.{List}
+use lib.ListN.{length}
+use Rattle.packet.specs.Packet.{width}
+use Rattle.registers.specs.declared.State.{State}
+use Rattle.registers.specs.declared.Event.{Event}
+use Rattle.signals.specs.Waveforms.{waveOf}
+use Rattle.commands.specs.Plans.{sentBy}
+use Rattle.commands.specs.Events.{effectOf}
+use Rattle.commands.specs.Replies.{replyBytes}
+pub use Rattle.bridge.specs.declared.preparing.Ready.{Ready}
+
+-- what is ready is the event's effect, and the size register stays in range
+pub record Prepared (s : State) (e : Event) (ss : List ℕ) (m : ℕ) (r : Ready) : Type 0 where
+  pub used : r .used ≡ (effectOf s e ss m) .used
+  pub bytes : r .bytes ≡ 4 * length ((effectOf s e ss m) .actions)
+  pub state : r .state ≡ (effectOf s e ss m) .state
+  pub replies : replyBytes (r .state) (r .reply) ≡ sentBy (effectOf s e ss m)
+  pub size : r .size ≡ length (sentBy (effectOf s e ss m))
+  pub actions : (waveOf (r .page) (r .wave) ss m) .actions ≡ (effectOf s e ss m) .actions
+  pub page-small : r .page .size < width
+  pub state-small : r .state .page .size < width

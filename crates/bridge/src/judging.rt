@@ -1,0 +1,76 @@
+// The judge's call: a start state and bytes.
+ghost use mathlib.Core.Path.{_≡_};
+ghost use Prim.Native.Nat.{_<_};
+ghost use Rattle.packet.specs.Packet.{width};
+ghost use Rattle.bridge.specs.Views.{interfaceOf, contextOf};
+ghost use Rattle.bridge.specs.Judging.{isIdle, judgementOf};
+use crate::Bridge;
+use crate::Judgement;
+use crate::Refusal;
+use grammar::Context;
+use grammar::Interface;
+use registers::State;
+use registers::Wait;
+
+// The interface that the flags select.
+fn interface(flags: u8) -> Interface
+    ensures { λ r. ⌜ r ≡ interfaceOf flags ⌝ }
+{
+    if flags % 2 == 1 {
+        return Interface::I2C;
+    }
+    if flags / 2 % 2 == 1 {
+        return Interface::SPI;
+    }
+    if flags / 4 % 2 == 1 {
+        return Interface::OneWire;
+    }
+    Interface::NoInterface
+}
+
+// The grammar's context of a state. The caller shows that N is a byte.
+fn context(s: State) -> Context
+    requires { ⌜ s .page .size < width ⌝ }
+    ensures { λ r. ⌜ r ≡ contextOf s ⌝ }
+{
+    let i = interface(s.page.flags);
+    Context {
+        interface: i,
+        configured: s.page.configured,
+        bits: s.page.size + 1,
+    }
+}
+
+// Whether nothing is waited for.
+fn is_idle(w: Wait) -> bool
+    ensures { λ r. ⌜ r ≡ isIdle w ⌝ }
+{
+    match w {
+        Wait::Nothing => true,
+        Wait::One(_) => false,
+        Wait::Extended => false,
+        Wait::Packet {
+            left: _,
+            exchange: _,
+        } => false,
+        Wait::Timings { left: _ } => false,
+    }
+}
+
+impl Bridge {
+    // Judges bytes that would be handed over from here: whole, open, or wrong at a place.
+    pub fn judge(self, bytes: &[u8]) -> Judgement
+        ensures { λ r. ⌜ r ≡ judgementOf self (now (bytes .entry)) ⌝ }
+    {
+        let s = self.state;
+        if !registers::in_range(s) {
+            return Judgement::Refused(Refusal::Ranges);
+        }
+        let w = s.wait;
+        if !is_idle(w) {
+            return Judgement::Refused(Refusal::Waits);
+        }
+        let v = grammar::judge(context(s), bytes);
+        Judgement::Judged(v)
+    }
+}

@@ -1,0 +1,118 @@
+// The bridge: one call for an event, and the judge's call.
+ghost use mathlib.Core.Path.{_≡_};
+ghost use Rattle.bridge.specs.Calls.{numberOf, refusal, given, lent, answerOf};
+
+mod judging;
+mod preparing;
+
+use grammar::Verdict;
+use registers::Event;
+use registers::State;
+
+// The bridge that a call takes and hands back: the state of the crates below, by value.
+pub struct Bridge {
+    pub state: State,
+}
+
+// Why a call is refused; `numberOf` in the definitions gives each its number.
+pub enum Refusal {
+    Ranges,
+    Samples,
+    Actions,
+    Replies,
+    Waits,
+}
+
+// Whether a call was taken.
+pub enum Outcome {
+    Taken,
+    Refused(Refusal),
+}
+
+// What a call answers: the new bridge, the outcome, and how many samples were used and reply bytes and actions written.
+pub struct Stepped {
+    pub bridge: Bridge,
+    pub outcome: Outcome,
+    pub samples: usize,
+    pub replies: usize,
+    pub actions: usize,
+}
+
+// What the judge answers.
+pub enum Judgement {
+    Judged(Verdict),
+    Refused(Refusal),
+}
+
+// A refusal's number in 01.
+pub fn number(r: Refusal) -> u8
+    ensures { λ n. ⌜ n ≡ numberOf r ⌝ }
+{
+    match r {
+        Refusal::Ranges => 1,
+        Refusal::Samples => 2,
+        Refusal::Actions => 3,
+        Refusal::Replies => 4,
+        Refusal::Waits => 12,
+    }
+}
+
+// A refused call's answer: the bridge that it was given, and no counts.
+fn refused(b: Bridge, why: Refusal) -> Stepped
+    ensures { λ r. ⌜ r ≡ refusal b why ⌝ }
+{
+    Stepped {
+        bridge: b,
+        outcome: Outcome::Refused(why),
+        samples: 0,
+        replies: 0,
+        actions: 0,
+    }
+}
+
+impl Bridge {
+    // One event. Everything is measured before anything is written, so a refused call leaves both buffers as they were.
+    pub fn step(
+        self,
+        event: Event,
+        samples: &[u8],
+        sampled: usize,
+        actions: &mut [u8],
+        acted: usize,
+        replies: &mut [u8],
+        replied: usize,
+    ) -> Stepped
+        ensures { λ r. ⌜ given r (now (actions .exit)) (now (replies .exit)) ≡ answerOf self event (lent (now (samples .entry)) sampled (now (actions .entry)) acted (now (replies .entry)) replied) ⌝ }
+    {
+        let s = self.state;
+        if !registers::in_range(s) {
+            return refused(self, Refusal::Ranges);
+        }
+        if samples.len() < sampled {
+            return refused(self, Refusal::Samples);
+        }
+        let r = preparing::prepare(s, event, samples, sampled);
+        if !wire::fits(samples.len(), sampled, r.used) {
+            return refused(self, Refusal::Samples);
+        }
+        if !wire::fits(actions.len(), acted, r.bytes) {
+            return refused(self, Refusal::Actions);
+        }
+        if !wire::fits(replies.len(), replied, r.size) {
+            return refused(self, Refusal::Replies);
+        }
+        let page = r.page;
+        let wave = r.wave;
+        let next = r.state;
+        let reply = r.reply;
+        signals::write(&mut actions[acted..], page, wave, samples, sampled);
+        commands::sending::put_reply(&mut replies[replied..], next, reply);
+        Stepped {
+            bridge: Bridge { state: next },
+            outcome: Outcome::Taken,
+            samples: r.used,
+            replies: r.size,
+            actions: r.bytes / wire::ACTION_BYTES,
+        }
+    }
+}

@@ -1,0 +1,69 @@
+// An event measured: everything about it but the writing.
+ghost use mathlib.Core.Path.{_≡_};
+ghost use Prim.Native.Nat.{_≤_};
+ghost use lib.ListN.{length};
+ghost use Rattle.registers.specs.Ranges.{InRange};
+ghost use Rattle.commands.specs.Plans.{received};
+ghost use Rattle.bridge.specs.Prepared.{Prepared};
+use commands::Reply;
+use packet::Register;
+use registers::Event;
+use registers::Page;
+use registers::State;
+use signals::Waveform;
+
+// The page and the waveform to write, the samples used, the bytes of the actions, the new state, and the reply with its size.
+pub(crate) struct Ready {
+    pub(crate) page: Page,
+    pub(crate) wave: Waveform,
+    pub(crate) used: usize,
+    pub(crate) bytes: usize,
+    pub(crate) state: State,
+    pub(crate) reply: Reply,
+    pub(crate) size: usize,
+}
+
+// The state with the packet register that the samples gave.
+fn receive(s: State, packet: Register) -> State
+    ensures { λ r. ⌜ r ≡ received s packet ⌝ }
+{
+    let mut page = s.page;
+    page.packet = packet;
+    let shared = s.shared;
+    let wait = s.wait;
+    let held = s.held;
+    State {
+        page,
+        shared,
+        wait,
+        held,
+    }
+}
+
+// Measures an event. The caller shows that the state breaks no range and that the mark is not past the samples' end.
+pub(crate) fn prepare(s: State, event: Event, samples: &[u8], sampled: usize) -> Ready
+    requires { ⌜ InRange s × (sampled ≤ length (now samples)) ⌝ }
+    ensures { λ r. ⌜ Prepared s event (now (samples .entry)) sampled r ⌝ }
+{
+    let p = commands::plan_event(s, event);
+    let planned = p.state;
+    let page = planned.page;
+    let wave = p.wave;
+    let answer = p.answer;
+    let x = signals::sense(page, wave, samples, sampled);
+    let packet = x.packet;
+    let q = receive(planned, packet);
+    let t = commands::replies::settle(q, answer, x.byte);
+    let state = t.state;
+    let reply = t.reply;
+    let size = commands::sending::reply_size(state, reply);
+    Ready {
+        page,
+        wave,
+        used: x.used,
+        bytes: x.bytes,
+        state,
+        reply,
+        size,
+    }
+}

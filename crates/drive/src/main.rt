@@ -1,0 +1,113 @@
+// Drives `step` with the events of standard input and writes what each call answers. An event is its kind (0 a byte, 1 a line
+// fault), its value, how many samples it is lent, and these. An answer is the outcome (0 taken, else the refusal's number), the
+// samples used, the reply bytes' and the actions' number (the last in two bytes), the reply bytes and the actions.
+use bridge::Bridge;
+use bridge::Outcome;
+use bridge::Stepped;
+use registers::Event;
+use registers::Fault;
+use registers::Page;
+use registers::Shared;
+use registers::State;
+use registers::Wait;
+
+// The factory start of a session, but for a version and a serial number whose bytes can be told apart.
+fn start() -> Bridge {
+    let page = Page {
+        flags: 0,
+        error: 0,
+        ddrb: 0,
+        portb: 0,
+        ddrc: 0,
+        portc: 0,
+        ddrd: 0,
+        portd: 0,
+        config: 0,
+        configured: false,
+        size: 0,
+        packet: [0; packet::BYTES],
+        timings: [0x86, 0xC4, 0xCC, 0xBC, 0xBF, 0xF9, 0xBC, 0xBF, 0xC7],
+    };
+    let shared = Shared {
+        eprom: [0, 0, 0, 0, 0, 0, 0, 0xFF, 0xFF, 0xFF],
+        cycles: 0xFF,
+        version: 0x12,
+        serial: [0xA1, 0xB2, 0xC3, 0xD4],
+    };
+    Bridge {
+        state: State {
+            page,
+            shared,
+            wait: Wait::Nothing,
+            held: [0; registers::HELD],
+        },
+    }
+}
+
+fn fault(code: u8) -> Fault {
+    match code {
+        0x81 => Fault::Frame,
+        0x82 => Fault::Overrun,
+        _ => Fault::Parity,
+    }
+}
+
+fn event(kind: u8, value: u8) -> Event {
+    if kind == 0 {
+        return Event::Byte(value);
+    }
+    Event::Fault(fault(value))
+}
+
+fn outcome(o: Outcome) -> u8 {
+    match o {
+        Outcome::Taken => 0,
+        Outcome::Refused(r) => bridge::number(r),
+    }
+}
+
+// Writes a call's answer.
+fn show(r: Stepped, replies: &[u8], actions: &[u8]) {
+    if 512 < r.actions {
+        return;
+    }
+    let o = r.outcome;
+    let low = (r.actions % 256) as u8;
+    let high = (r.actions / 256) as u8;
+    io::write_all(1, &[outcome(o), r.samples as u8, r.replies as u8, low, high]);
+    let n = io::count(r.replies as isize, replies);
+    io::write_all(1, &replies[..n]);
+    let m = io::count((4 * r.actions) as isize, actions);
+    io::write_all(1, &actions[..m]);
+}
+
+// One call, with empty buffers.
+fn call(b: Bridge, e: Event, samples: &[u8]) -> Bridge {
+    let mut actions = [0u8; 2048];
+    let mut replies = [0u8; 64];
+    let r = b.step(e, samples, 0, &mut actions, 0, &mut replies, 0);
+    show(r, &replies, &actions);
+    r.bridge
+}
+
+fn drive(input: &[u8]) {
+    let mut b = start();
+    let mut i: usize = 0;
+    while 3 <= input.len() - i {
+        let n = input[i + 2] as usize;
+        let e = event(input[i], input[i + 1]);
+        let from = i + 3;
+        if input.len() - from < n {
+            return;
+        }
+        i = from + n;
+        let c = call(b, e, &input[from..i]);
+        b = c;
+    }
+}
+
+fn main() {
+    let mut input = io::large_buffer();
+    let n = io::read_full(0, &mut input);
+    drive(&input[..n]);
+}
