@@ -2,13 +2,15 @@
 use Prim.Native.Nat.{ℕ, _+_, _-_, _*_, _/_, _≤_}
 use mathlib.Core.Path.{_≡_, sym, ap, _∙_}
 use mathlib.Core.Bool.{true, false}
-use mathlib.Core.List.{List}
+use mathlib.Core.List.{List, _++_}
+use native.Mathlib.Nat.{add-zero}
 use native.Mathlib.Omega.{arith}
 use borrow.Author.Tests.{leb-true}
 use lib.ListN.{length, take, drop, length-take, length-drop}
 use Rattle.wire.specs.Action.{bytesOf}
-use Rattle.wire.specs.Buffer.{overwrite, fitsIn}
+use Rattle.wire.specs.Buffer.{overwrite, fitsIn, Written}
 use Rattle.wire.proofs.Actions.{bytes-length}
+use Rattle.wire.proofs.Buffers.{lent}
 use Rattle.registers.specs.Ranges.{stateFits}
 use Rattle.registers.specs.declared.State.{State}
 use Rattle.registers.specs.declared.Event.{Event}
@@ -56,3 +58,8 @@ part-start size a n h = omega (arith, leb-true (a + n) size h)
 
 pub part-room : (a n : ℕ) (l : List ℕ) → fitsIn (length l) a n ≡ true → n ≤ length (take (length l - a) (drop a l))
 part-room a n l h = simp (length-take, length-drop) (omega (arith, leb-true (a + n) (length l) h))
+
+-- `&mut l[mark..]` comes back with bytes at its start
+pub written-after : (l : List ℕ) (mark : ℕ) {ys xs zs : List ℕ} {next : ℕ} → Written (take (length l - mark) (drop mark l)) 0 xs ys next → xs ≡ zs
+    → take mark l ++ (ys ++ drop (length l - mark) (drop mark l)) ≡ overwrite l mark zs
+written-after l mark {ys} {xs} w e = lent l mark 0 ys xs (w .bytes) ∙ (λ i. overwrite l (add-zero mark i) (e i))

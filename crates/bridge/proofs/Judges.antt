@@ -38,8 +38,7 @@ module _ (b : Bridge) (bs : List ℕ) where
   unfolding answer Right
   right true true p q =
       let n = range-test (b .state) .0 p in
-      let i = idle-is (b .state .wait) q in
-      (
+      let i = idle-is (b .state .wait) q in (
         λ w. (
           λ z. (n, i, judge-right (contextOf (b .state)) bs .answers w .0 (let x : judgeOf (contextOf (b .state)) bs ≡ w = cc in x)),
           λ s. ap Judged (judge-right (contextOf (b .state)) bs .answers w .1 (s .2)),
@@ -49,15 +48,13 @@ module _ (b : Bridge) (bs : List ℕ) where
       )
   right true false p q =
       let n = range-test (b .state) .0 p in
-      let busy : ¬ (b .state .wait ≡ v.Nothing) = λ e. false≢true (sym q ∙ ap isIdle e) in
-      (
+      let busy : ¬ (b .state .wait ≡ v.Nothing) = λ e. false≢true (sym q ∙ ap isIdle e) in (
         λ w. (λ z. let x : _≡_ {A = ℕ} 0 1 = cc in absurd (omega arith), λ s. absurd (busy (s .1))),
         (λ z. let x : _≡_ {A = ℕ} 0 1 = cc in absurd (omega arith), λ m. absurd (m n)),
         (λ z. (n, busy), λ m. refl),
       )
   right false u p q =
-      let broken : ¬ InRange (b .state) = λ n. false≢true (sym p ∙ range-test (b .state) .1 n) in
-      (
+      let broken : ¬ InRange (b .state) = λ n. false≢true (sym p ∙ range-test (b .state) .1 n) in (
         λ w. (λ z. let x : _≡_ {A = ℕ} 0 1 = cc in absurd (omega arith), λ s. absurd (broken (s .0))),
         (λ z. broken, λ m. refl),
         (λ z. let x : _≡_ {A = ℕ} 0 1 = cc in absurd (omega arith), λ m. absurd (broken (m .0))),

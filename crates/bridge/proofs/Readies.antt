@@ -1,8 +1,10 @@
 -- What is ready after planning, sensing, receiving and settling is the event's effect. Assumes nothing.
-use Prim.Native.Nat.{ℕ, _<_}
+use Prim.Native.Nat.{ℕ, _*_, _<_, _≤_}
 use mathlib.Core.Path.{_≡_, refl, sym, ap, _∙_, subst, subst⁻¹}
 use mathlib.Core.List.{List}
 use lib.ListN.{length}
+use Rattle.wire.specs.Action.{Action, bytesOf}
+use Rattle.wire.proofs.Actions.{bytes-length}
 use Rattle.packet.specs.Packet.{width}
 use Rattle.registers.specs.Ranges.{InRange}
 use Rattle.registers.specs.declared.State.{State}
@@ -42,7 +44,7 @@ module _ (s : State) (e : Event) (ss : List ℕ) (m : ℕ) (n : InRange s) where
   planned x ex q eq t et k ek =
       let p = planOf s e in
       let g : settlement (t .state) (replyBytes (t .state) (t .reply)) ≡ settles p (senseOf (waveOf (p .state .page) (p .wave) ss m)) =
-          et ∙ ap (λ (r : State). settlementOf r (saidOf r (x .byte) (p .answer))) eq ∙ ap (settles p) ex in
+      et ∙ ap (λ (r : State). settlementOf r (saidOf r (x .byte) (p .answer))) eq ∙ ap (settles p) ex in
       record {
         used = ap (λ (y : Sensed). y .used) ex;
         bytes = ap (λ (y : Sensed). y .bytes) ex;
@@ -57,9 +59,21 @@ module _ (s : State) (e : Event) (ss : List ℕ) (m : ℕ) (n : InRange s) where
   pub prepared : (p : Plan) → p ≡ planOf s e → After p
   prepared p q = subst⁻¹ After q planned
 
+-- what is ready to be written fits where its measure fits
+module _ {s : State} {e : Event} {ss : List ℕ} {m : ℕ} {r : Ready} (p : Prepared s e ss m r) (k : ℕ) where
+  pub actions-fit : r .bytes ≤ k → length (bytesOf ((waveOf (r .page) (r .wave) ss m) .actions)) ≤ k
+  actions-fit h =
+      let q : length (bytesOf ((waveOf (r .page) (r .wave) ss m) .actions)) ≡ r .bytes = bytes-length ((waveOf (r .page) (r .wave) ss m) .actions) ∙ ap (λ (x : List Action). 4 * length x) (p .actions) ∙ sym (p .bytes) in
+      subst⁻¹ (λ (n : ℕ). n ≤ k) q h
+
+  pub replies-fit : r .size ≤ k → length (replyBytes (r .state) (r .reply)) ≤ k
+  replies-fit h =
+      let q : length (replyBytes (r .state) (r .reply)) ≡ r .size = ap length (p .replies) ∙ sym (p .size) in
+      subst⁻¹ (λ (n : ℕ). n ≤ k) q h
+
 -- the size register is in no part that receiving or settling changes
 pub received-size : (s : State) (r : List ℕ) {q : State} → q ≡ received s r → q .page .size ≡ s .page .size
 received-size s r e = ap (λ (q : State). q .page .size) e
 
-pub settled-size : (q : State) (x : Settlement) {t : State} {xs : List ℕ} → settlement t xs ≡ x → t .page .size ≡ x .state .page .size
-settled-size q x e = ap (λ (y : Settlement). y .state .page .size) e
+pub settled-size : (x : Settlement) {t : State} {xs : List ℕ} → settlement t xs ≡ x → t .page .size ≡ x .state .page .size
+settled-size x e = ap (λ (y : Settlement). y .state .page .size) e

@@ -74,7 +74,10 @@ fn show(r: Stepped, replies: &[u8], actions: &[u8]) {
     let o = r.outcome;
     let low = (r.actions % 256) as u8;
     let high = (r.actions / 256) as u8;
-    io::write_all(1, &[outcome(o), r.samples as u8, r.replies as u8, low, high]);
+    io::write_all(
+        1,
+        &[outcome(o), r.samples as u8, r.replies as u8, low, high],
+    );
     let n = io::count(r.replies as isize, replies);
     io::write_all(1, &replies[..n]);
     let m = io::count((4 * r.actions) as isize, actions);

@@ -1,146 +1,108 @@
+-- Way out by way out, the definition's answer.
 use borrow.Author.Needs.{needs}
+use borrow.Author.Tests.{not-true, not-false}
+use mathlib.Core.Path.{sym, ap, _∙_}
+use native.Mathlib.Omega.{arith}
+use Rattle.wire.specs.Action.{bytesOf}
+use Rattle.wire.proofs.Buffers.{past-the-end}
+use Rattle.registers.proofs.InRange.{range-test}
+use Rattle.bridge.specs.Calls.{Stepped, given, lent}
+use Rattle.bridge.proofs.Readies.{actions-fit, replies-fit}
+use Rattle.bridge.proofs.Answers.{refuse-ranges, refuse-samples, refuse-actions, refuse-replies, take-event, part-start, part-room, written-after}
 use Rattle.bridge.proofs.Bridge.step.Statement.{statement}
 use Rattle.bridge.proofs.Bridge.step.Tie as tie
-use Rattle.bridge.proofs.Bridge.step.Reads as reads
-use Rattle.bridge.proofs.Bridge.step.Lts as lts
-use Rattle.bridge.proofs.preparing.prepare.Reads as prepare-reads
-use Rattle.bridge.proofs.refused.Reads as refused-reads
-use Rattle.commands.proofs.sending.put_reply.Reads as put-reply-reads
-use Rattle.registers.proofs.in_range.Reads as in-range-reads
-use Rattle.signals.proofs.write.Reads as write-reads
-use Rattle.wire.proofs.fits.Reads as fits-reads
-
--- src/lib.rt:88:13
-in-range-requires : tie.Need-in-range-requires
-in-range-requires c κs = search needs
-
--- src/lib.rt:89:13
-refused-requires : tie.Need-refused-requires
-refused-requires c κs = search needs
-
--- src/lib.rt:89:13
-returns : tie.Need-returns
-returns c = ?
-
--- src/lib.rt:92:13
-refused-requires-2 : tie.Need-refused-requires-2
-refused-requires-2 c κs = search needs
-
--- src/lib.rt:92:13
-returns-2 : tie.Need-returns-2
-returns-2 c = ?
-
--- src/lib.rt:94:13
-prepare-requires : tie.Need-prepare-requires
-prepare-requires c κs = ?
-
--- src/lib.rt:95:13
-fits-requires : tie.Need-fits-requires
-fits-requires c κs = search needs
-
--- src/lib.rt:96:13
-refused-requires-3 : tie.Need-refused-requires-3
-refused-requires-3 c κs = search needs
-
--- src/lib.rt:96:13
-returns-3 : tie.Need-returns-3
-returns-3 c = ?
-
--- src/lib.rt:98:13
-fits-requires-2 : tie.Need-fits-requires-2
-fits-requires-2 c κs = search needs
-
--- src/lib.rt:99:13
-refused-requires-4 : tie.Need-refused-requires-4
-refused-requires-4 c κs = search needs
-
--- src/lib.rt:99:13
-returns-4 : tie.Need-returns-4
-returns-4 c = ?
-
--- src/lib.rt:101:13
-fits-requires-3 : tie.Need-fits-requires-3
-fits-requires-3 c κs = search needs
-
--- src/lib.rt:102:13
-refused-requires-5 : tie.Need-refused-requires-5
-refused-requires-5 c κs = search needs
-
--- src/lib.rt:102:13
-returns-5 : tie.Need-returns-5
-returns-5 c = ?
-
--- src/lib.rt:108:24
-sub-write : tie.Need-sub-write
-sub-write c = ?
-
--- src/lib.rt:108:24
-part-write-start : tie.Need-part-write-start
-part-write-start c = ?
-
--- src/lib.rt:108:24
-part-write-end : tie.Need-part-write-end
-part-write-end c = search needs
-
--- src/lib.rt:108:9
-write-requires : tie.Need-write-requires
-write-requires c κs = ?
-
--- src/lib.rt:109:38
-sub-put-reply : tie.Need-sub-put-reply
-sub-put-reply c = ?
-
--- src/lib.rt:109:38
-part-put-reply-start : tie.Need-part-put-reply-start
-part-put-reply-start c = ?
-
--- src/lib.rt:109:38
-part-put-reply-end : tie.Need-part-put-reply-end
-part-put-reply-end c = search needs
-
--- src/lib.rt:109:9
-put-reply-requires : tie.Need-put-reply-requires
-put-reply-requires c κs = ?
-
--- src/lib.rt:75:5
-same-length : tie.Need-same-length
-same-length c = search needs
-
--- src/lib.rt:75:5
-same-length-2 : tie.Need-same-length-2
-same-length-2 c = search needs
-
--- src/lib.rt:75:5
-returns-6 : tie.Need-returns-6
-returns-6 c = ?
 
 pub step-spec : {M : Type 1} → statement M
 step-spec =
     tie.close
     (tie.spec
-    in-range-requires
-    refused-requires
-    returns
-    refused-requires-2
-    returns-2
-    prepare-requires
-    fits-requires
-    refused-requires-3
-    returns-3
-    fits-requires-2
-    refused-requires-4
-    returns-4
-    fits-requires-3
-    refused-requires-5
-    returns-5
-    sub-write
-    part-write-start
-    part-write-end
-    write-requires
-    sub-put-reply
-    part-put-reply-start
-    part-put-reply-end
-    put-reply-requires
-    same-length
-    same-length-2
-    returns-6)
+    (λ c κs. search needs)
+    (λ c κs. search needs)
+    (λ c.
+    let i = c .before .before in
+    let s = i .before .before .before .before .before in
+    let l = lent (s .args .samples .now) (s .args .sampled) (s .args .actions .now) (s .args .acted) (s .args .replies .now) (s .args .replied) in
+    ap (λ (t : Stepped). given t (s .args .actions .now) (s .args .replies .now)) (c .refused .ensures) ∙ refuse-ranges (s .args .self) (s .args .event) l (sym (i .in-range .ensures) ∙ not-true _ (c .before .if1 .taken)))
+    (λ c κs. search needs)
+    (λ c.
+    let i = c .before .before .before in
+    let s = i .before .before .before .before .before in
+    let l = lent (s .args .samples .now) (s .args .sampled) (s .args .actions .now) (s .args .acted) (s .args .replies .now) (s .args .replied) in
+    ap (λ (t : Stepped). given t (s .args .actions .now) (s .args .replies .now)) (c .refused2 .ensures) ∙ refuse-samples (s .args .self) (s .args .event) l (sym (i .in-range .ensures) ∙ not-false _ (c .before .before .if1 .left)) (past-the-end _ _ _ (c .before .if2 .taken)))
+    (λ c κs.
+    let i = c .before .before in
+    let s = i .before .before .before .before .before in
+    (range-test (s .args .self .state) .0 (sym (i .in-range .ensures) ∙ not-false _ (c .before .if1 .left)), omega (arith, c .if2 .left)))
+    (λ c κs. search needs)
+    (λ c κs. search needs)
+    (λ c.
+    let f = c .before .before in
+    let p = f .before in
+    let i = p .before .before .before in
+    let s = i .before .before .before .before .before in
+    let h = sym (i .in-range .ensures) ∙ not-false _ (p .before .before .if1 .left) in
+    let l = lent (s .args .samples .now) (s .args .sampled) (s .args .actions .now) (s .args .acted) (s .args .replies .now) (s .args .replied) in
+    ap (λ (t : Stepped). given t (s .args .actions .now) (s .args .replies .now)) (c .refused3 .ensures) ∙ refuse-samples (s .args .self) (s .args .event) l h (rw (p .prepare .ensures .used) at (sym (f .fits2 .ensures) ∙ not-true _ (c .before .if3 .taken))))
+    (λ c κs. search needs)
+    (λ c κs. search needs)
+    (λ c.
+    let f = c .before .before in
+    let g = f .before .before in
+    let p = g .before in
+    let i = p .before .before .before in
+    let s = i .before .before .before .before .before in
+    let h = sym (i .in-range .ensures) ∙ not-false _ (p .before .before .if1 .left) in
+    let l = lent (s .args .samples .now) (s .args .sampled) (s .args .actions .now) (s .args .acted) (s .args .replies .now) (s .args .replied) in
+    ap (λ (t : Stepped). given t (s .args .actions .now) (s .args .replies .now)) (c .refused4 .ensures) ∙ refuse-actions (s .args .self) (s .args .event) l h (p .prepare .ensures .used) (sym (g .fits2 .ensures) ∙ not-false _ (f .before .if3 .left)) (p .prepare .ensures .bytes) (sym (f .fits3 .ensures) ∙ not-true _ (c .before .if4 .taken)))
+    (λ c κs. search needs)
+    (λ c κs. search needs)
+    (λ c.
+    let f = c .before .before in
+    let g = f .before .before in
+    let k = g .before .before in
+    let p = k .before in
+    let i = p .before .before .before in
+    let s = i .before .before .before .before .before in
+    let h = sym (i .in-range .ensures) ∙ not-false _ (p .before .before .if1 .left) in
+    let l = lent (s .args .samples .now) (s .args .sampled) (s .args .actions .now) (s .args .acted) (s .args .replies .now) (s .args .replied) in
+    ap (λ (t : Stepped). given t (s .args .actions .now) (s .args .replies .now)) (c .refused5 .ensures) ∙ refuse-replies (s .args .self) (s .args .event) l h (p .prepare .ensures .used) (sym (k .fits2 .ensures) ∙ not-false _ (g .before .if3 .left)) (p .prepare .ensures .bytes) (sym (g .fits3 .ensures) ∙ not-false _ (f .before .if4 .left)) (p .prepare .ensures .size) (sym (f .fits4 .ensures) ∙ not-true _ (c .before .if5 .taken)))
+    (λ c.
+    let t = c .before .before .before .before in
+    part-start _ _ _ (sym (t .before .fits3 .ensures) ∙ not-false _ (t .if4 .left)))
+    (λ c.
+    let t = c .before .before .before .before in
+    part-start _ _ _ (sym (t .before .fits3 .ensures) ∙ not-false _ (t .if4 .left)))
+    (λ c. search needs)
+    (λ c κs.
+    let t = c .before .before .before .before .before in
+    let p = t .before .before .before .before in
+    let s = p .before .before .before .before .before .before .before .before in
+    (p .prepare .ensures .page-small, actions-fit (p .prepare .ensures) _ (part-room (s .args .acted) _ (s .args .actions .now) (sym (t .before .fits3 .ensures) ∙ not-false _ (t .if4 .left)))))
+    (λ c.
+    let t = c .before .before .before .before .before .before in
+    part-start _ _ _ (sym (t .before .fits4 .ensures) ∙ not-false _ (t .if5 .left)))
+    (λ c.
+    let t = c .before .before .before .before .before .before in
+    part-start _ _ _ (sym (t .before .fits4 .ensures) ∙ not-false _ (t .if5 .left)))
+    (λ c. search needs)
+    (λ c κs.
+    let t = c .before .before .before .before .before .before .before in
+    let p = t .before .before .before .before .before .before in
+    let s = p .before .before .before .before .before .before .before .before in
+    (p .prepare .ensures .state-small, replies-fit (p .prepare .ensures) _ (part-room (s .args .replied) _ (s .args .replies .now) (sym (t .before .fits4 .ensures) ∙ not-false _ (t .if5 .left)))))
+    (λ c. search needs)
+    (λ c. search needs)
+    (λ c.
+    let y = c .before .before .before in
+    let w = y .before .before .before .before in
+    let f = w .before .before .before .before .before in
+    let g = f .before .before in
+    let k = g .before .before in
+    let p = k .before in
+    let i = p .before .before .before in
+    let s = i .before .before .before .before .before in
+    let h = sym (i .in-range .ensures) ∙ not-false _ (p .before .before .if1 .left) in
+    let l = lent (s .args .samples .now) (s .args .sampled) (s .args .actions .now) (s .args .acted) (s .args .replies .now) (s .args .replied) in
+    take-event (s .args .self) (s .args .event) l h (p .prepare .ensures .used) (sym (k .fits2 .ensures) ∙ not-false _ (g .before .if3 .left)) (p .prepare .ensures .bytes) (sym (g .fits3 .ensures) ∙ not-false _ (f .before .if4 .left)) (p .prepare .ensures .size) (sym (f .fits4 .ensures) ∙ not-false _ (w .before .before .before .before .if5 .left)) (p .prepare .ensures .state)
+    (written-after (s .args .actions .now) (s .args .acted) (w .write .ensures) (ap bytesOf (p .prepare .ensures .actions)))
+    (written-after (s .args .replies .now) (s .args .replied) (y .put-reply .ensures) (p .prepare .ensures .replies))))

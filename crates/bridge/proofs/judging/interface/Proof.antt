@@ -1,23 +1,13 @@
+-- Flag by flag.
+use borrow.Author.Tests.{eq-eqb, ne-eqb}
 use Rattle.bridge.proofs.judging.interface.Statement.{statement}
 use Rattle.bridge.proofs.judging.interface.Tie as tie
-use Rattle.bridge.proofs.judging.interface.Reads as reads
-use Rattle.bridge.proofs.judging.interface.Lts as lts
-
--- src/judging.rt:20:9
-returns : tie.Need-returns
-returns c = ?
-
--- src/judging.rt:23:9
-returns-2 : tie.Need-returns-2
-returns-2 c = ?
-
--- src/judging.rt:26:9
-returns-3 : tie.Need-returns-3
-returns-3 c = ?
-
--- src/judging.rt:16:1
-returns-4 : tie.Need-returns-4
-returns-4 c = ?
 
 pub interface-spec : {M : Type 1} → statement M
-interface-spec = tie.close (tie.spec returns returns-2 returns-3 returns-4)
+interface-spec =
+    tie.close
+    (tie.spec
+    (λ c. rw (eq-eqb _ _ (c .if1 .taken)))
+    (λ c. rw (ne-eqb _ _ (c .before .if1 .left), eq-eqb _ _ (c .if2 .taken)))
+    (λ c. rw (ne-eqb _ _ (c .before .before .if1 .left), ne-eqb _ _ (c .before .if2 .left), eq-eqb _ _ (c .if3 .taken)))
+    (λ c. rw (ne-eqb _ _ (c .before .before .if1 .left), ne-eqb _ _ (c .before .if2 .left), ne-eqb _ _ (c .if3 .left))))

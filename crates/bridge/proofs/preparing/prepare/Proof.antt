@@ -1,45 +1,30 @@
+-- Planned, sensed, received and settled.
 use borrow.Author.Needs.{needs}
+use mathlib.Core.Path.{_∙_}
+use Rattle.bridge.proofs.Readies.{plan-small, prepared, received-size, settled-size}
 use Rattle.bridge.proofs.preparing.prepare.Statement.{statement}
 use Rattle.bridge.proofs.preparing.prepare.Tie as tie
-use Rattle.bridge.proofs.preparing.prepare.Reads as reads
-use Rattle.bridge.proofs.preparing.prepare.Lts as lts
-use Rattle.bridge.proofs.preparing.receive.Reads as receive-reads
-use Rattle.commands.proofs.plan_event.Reads as plan-event-reads
-use Rattle.commands.proofs.replies.settle.Reads as settle-reads
-use Rattle.commands.proofs.sending.reply_size.Reads as reply-size-reads
-use Rattle.signals.proofs.sense.Reads as sense-reads
-
--- src/preparing.rt:48:9
-plan-event-requires : tie.Need-plan-event-requires
-plan-event-requires c κs = search needs
-
--- src/preparing.rt:53:9
-sense-requires : tie.Need-sense-requires
-sense-requires c κs = ?
-
--- src/preparing.rt:55:9
-receive-requires : tie.Need-receive-requires
-receive-requires c κs = search needs
-
--- src/preparing.rt:56:9
-settle-requires : tie.Need-settle-requires
-settle-requires c κs = search needs
-
--- src/preparing.rt:59:9
-reply-size-requires : tie.Need-reply-size-requires
-reply-size-requires c κs = ?
-
--- src/preparing.rt:44:1
-returns : tie.Need-returns
-returns c = ?
 
 pub prepare-spec : {M : Type 1} → statement M
 prepare-spec =
     tie.close
     (tie.spec
-    plan-event-requires
-    sense-requires
-    receive-requires
-    settle-requires
-    reply-size-requires
-    returns)
+    (λ c κs. search needs)
+    (λ c κs.
+    let p = c .before .before in
+    let s = p .before .before in
+    (plan-small (s .args .s) (s .args .event) (s .args .samples .now) (s .args .sampled) (s .pre .0) (p .plan-event .ensures), s .pre .1))
+    (λ c κs. search needs)
+    (λ c κs. search needs)
+    (λ c κs.
+    let t = c .before in
+    let p = t .before .before .before .before .before .before in
+    let s = p .before .before in
+    rw (settled-size _ (t .settle .ensures) ∙ received-size (p .plan-event .result .state) _ (t .before .receive .ensures))
+    (plan-small (s .args .s) (s .args .event) (s .args .samples .now) (s .args .sampled) (s .pre .0) (p .plan-event .ensures)))
+    (λ c.
+    let t = c .before .before in
+    let x = t .before .before .before in
+    let p = x .before .before .before in
+    let s = p .before .before in
+    prepared (s .args .s) (s .args .event) (s .args .samples .now) (s .args .sampled) (s .pre .0) (p .plan-event .result) (p .plan-event .ensures) (x .sense .result) (x .sense .ensures) (t .before .receive .result) (t .before .receive .ensures) (t .settle .result) (t .settle .ensures) (c .reply-size .result) (c .reply-size .ensures)))
