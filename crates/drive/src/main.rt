@@ -66,21 +66,27 @@ fn outcome(o: Outcome) -> u8 {
     }
 }
 
-// Writes a call's answer.
+// Writes a call's answer: what it counts can't be more than the buffers hold.
 fn show(r: Stepped, replies: &[u8], actions: &[u8]) {
-    if 512 < r.actions {
+    let o = r.outcome;
+    let sampled = r.samples;
+    let sent = r.replies;
+    let acted = r.actions;
+    if 255 < sampled {
         return;
     }
-    let o = r.outcome;
-    let low = (r.actions % 256) as u8;
-    let high = (r.actions / 256) as u8;
-    io::write_all(
-        1,
-        &[outcome(o), r.samples as u8, r.replies as u8, low, high],
-    );
-    let n = io::count(r.replies as isize, replies);
+    if 64 < sent {
+        return;
+    }
+    if 512 < acted {
+        return;
+    }
+    let low = (acted % 256) as u8;
+    let high = (acted / 256) as u8;
+    io::write_all(1, &[outcome(o), sampled as u8, sent as u8, low, high]);
+    let n = io::count(sent as isize, replies);
     io::write_all(1, &replies[..n]);
-    let m = io::count((4 * r.actions) as isize, actions);
+    let m = io::count((4 * acted) as isize, actions);
     io::write_all(1, &actions[..m]);
 }
 
@@ -93,12 +99,17 @@ fn call(b: Bridge, e: Event, samples: &[u8]) -> Bridge {
     r.bridge
 }
 
+// A byte as a count.
+fn wide(x: u8) -> usize {
+    x as usize
+}
+
 fn drive(input: &[u8]) {
     let mut b = start();
     let mut i: usize = 0;
     while 3 <= input.len() - i {
-        let n = input[i + 2] as usize;
         let e = event(input[i], input[i + 1]);
+        let n = wide(input[i + 2]);
         let from = i + 3;
         if input.len() - from < n {
             return;
