@@ -15,7 +15,7 @@ use Rattle.registers.specs.Ranges.{stateFits}
 use Rattle.registers.specs.declared.State.{State}
 use Rattle.registers.specs.declared.Event.{Event}
 use Rattle.commands.specs.Plans.{sentBy}
-use Rattle.bridge.specs.Calls.{Bridge, Ranges, Samples, Actions, Replies, Taken, Lent, effect, given, refusal, answerOf}
+use Rattle.bridge.specs.Calls.{Bridge, Ranges, Samples, Actions, Replies, Lent, effect, given, refusal, acceptance, answerOf}
 
 module _ (b : Bridge) (e : Event) (l : Lent) where
   pub refuse-ranges : stateFits (b .state) ≡ false → given (refusal b Ranges) (l .actions) (l .replies) ≡ answerOf b e l
@@ -47,7 +47,7 @@ module _ (b : Bridge) (e : Event) (l : Lent) where
 
       pub take-event : fitsIn (length (l .replies)) (l .replied) m ≡ true
           → {s : State} {as′ rs : List ℕ} → s ≡ (effect b e l) .state → as′ ≡ overwrite (l .actions) (l .acted) (bytesOf ((effect b e l) .actions)) → rs ≡ overwrite (l .replies) (l .replied) (sentBy (effect b e l))
-          → given (record { bridge = record { state = s }; outcome = Taken; samples = u; replies = m; actions = n / 4 }) as′ rs ≡ answerOf b e l
+          → given (acceptance s u m (n / 4)) as′ rs ≡ answerOf b e l
       unfolding answerOf
       take-event j es ea er = rw (h, rw eu at g, rw en′ at k, rw em at j, es, eu, em, quarter, ea, er)
 

@@ -59,12 +59,12 @@ abbrev pub effect : Bridge → Event → Lent → Effect
 effect b e l = effectOf (b .state) e (l .samples) (l .sampled)
 
 -- "The answer carries three counts: samples used, reply bytes, actions."
-abbrev pub taking : Effect → Stepped
-taking x = record { bridge = record { state = x .state }; outcome = Taken; samples = x .used; replies = length (sentBy x); actions = length (x .actions) }
+abbrev pub acceptance : State → ℕ → ℕ → ℕ → Stepped
+acceptance s samples replies actions = record { bridge = record { state = s }; outcome = Taken; samples = samples; replies = replies; actions = actions }
 
 -- "Replies and actions of an event are written to the unused rest of a lent buffer"
 abbrev pub taken : Effect → Lent → Given
-taken x l = given (taking x) (overwrite (l .actions) (l .acted) (bytesOf (x .actions))) (overwrite (l .replies) (l .replied) (sentBy x))
+taken x l = given (acceptance (x .state) (x .used) (length (sentBy x)) (length (x .actions))) (overwrite (l .actions) (l .acted) (bytesOf (x .actions))) (overwrite (l .replies) (l .replied) (sentBy x))
 
 -- a call is refused unless a test says true
 abbrev pub unless : Bool → Given → Given → Given

@@ -1,6 +1,7 @@
 // The bridge: one call for an event, and the judge's call.
 ghost use mathlib.Core.Path.{_≡_};
-ghost use Rattle.bridge.specs.Calls.{numberOf, refusal, given, lent, answerOf};
+ghost use Prim.Native.Nat.{_/_};
+ghost use Rattle.bridge.specs.Calls.{numberOf, refusal, acceptance, given, lent, answerOf};
 
 mod judging;
 mod preparing;
@@ -70,6 +71,19 @@ fn refused(b: Bridge, why: Refusal) -> Stepped
     }
 }
 
+// A taken call's answer, with the actions counted from their bytes.
+fn accepted(s: State, samples: usize, replies: usize, bytes: usize) -> Stepped
+    ensures { λ r. ⌜ r ≡ acceptance s samples replies (bytes / 4) ⌝ }
+{
+    Stepped {
+        bridge: Bridge { state: s },
+        outcome: Outcome::Taken,
+        samples,
+        replies,
+        actions: bytes / wire::ACTION_BYTES,
+    }
+}
+
 impl Bridge {
     // One event. Everything is measured before anything is written, so a refused call leaves both buffers as they were.
     pub fn step(
@@ -89,7 +103,7 @@ impl Bridge {
             return refused(self, Refusal::Ranges);
         }
         if samples.len() < sampled {
-            return refused(self, Refusal::Samples);
+            return refused(self, Refusal::Samples); // past the end
         }
         let r = preparing::prepare(s, event, samples, sampled);
         if !wire::fits(samples.len(), sampled, r.used) {
@@ -107,12 +121,6 @@ impl Bridge {
         let reply = r.reply;
         signals::write(&mut actions[acted..], page, wave, samples, sampled);
         commands::sending::put_reply(&mut replies[replied..], next, reply);
-        Stepped {
-            bridge: Bridge { state: next },
-            outcome: Outcome::Taken,
-            samples: r.used,
-            replies: r.size,
-            actions: r.bytes / wire::ACTION_BYTES,
-        }
+        accepted(next, r.used, r.size, r.bytes)
     }
 }

@@ -25,10 +25,11 @@ pub(crate) fn make(s: State, wave: Waveform, answer: Answer) -> Plan
 pub(crate) fn returning(s: State, code: u8) -> Plan
     ensures { λ r. ⌜ r ≡ returns s code ⌝ }
 {
+    let answer = Answer::Returns(code);
     Plan {
         state: s,
         wave: Waveform::Still,
-        answer: Answer::Returns(code),
+        answer,
     }
 }
 
@@ -47,10 +48,11 @@ pub(crate) fn sending(s: State, answer: Answer) -> Plan
 pub(crate) fn performing(s: State, wave: Waveform) -> Plan
     ensures { λ r. ⌜ r ≡ performs s wave ⌝ }
 {
+    let answer = Answer::Returns(0x00);
     Plan {
         state: s,
         wave,
-        answer: Answer::Returns(0x00),
+        answer,
     }
 }
 

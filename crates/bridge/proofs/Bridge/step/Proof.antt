@@ -90,6 +90,7 @@ step-spec =
     let p = t .before .before .before .before .before .before in
     let s = p .before .before .before .before .before .before .before .before in
     (p .prepare .ensures .state-small, replies-fit (p .prepare .ensures) _ (part-room (s .args .replied) _ (s .args .replies .now) (sym (t .before .fits4 .ensures) ∙ not-false _ (t .if5 .left)))))
+    (λ c κs. search needs)
     (λ c. search needs)
     (λ c. search needs)
     (λ c.
@@ -103,6 +104,7 @@ step-spec =
     let s = i .before .before .before .before .before in
     let h = sym (i .in-range .ensures) ∙ not-false _ (p .before .before .if1 .left) in
     let l = lent (s .args .samples .now) (s .args .sampled) (s .args .actions .now) (s .args .acted) (s .args .replies .now) (s .args .replied) in
-    take-event (s .args .self) (s .args .event) l h (p .prepare .ensures .used) (sym (k .fits2 .ensures) ∙ not-false _ (g .before .if3 .left)) (p .prepare .ensures .bytes) (sym (g .fits3 .ensures) ∙ not-false _ (f .before .if4 .left)) (p .prepare .ensures .size) (sym (f .fits4 .ensures) ∙ not-false _ (w .before .before .before .before .if5 .left)) (p .prepare .ensures .state)
+    rw (c .accepted .ensures)
+    (take-event (s .args .self) (s .args .event) l h (p .prepare .ensures .used) (sym (k .fits2 .ensures) ∙ not-false _ (g .before .if3 .left)) (p .prepare .ensures .bytes) (sym (g .fits3 .ensures) ∙ not-false _ (f .before .if4 .left)) (p .prepare .ensures .size) (sym (f .fits4 .ensures) ∙ not-false _ (w .before .before .before .before .if5 .left)) (p .prepare .ensures .state)
     (written-after (s .args .actions .now) (s .args .acted) (w .write .ensures) (ap bytesOf (p .prepare .ensures .actions)))
-    (written-after (s .args .replies .now) (s .args .replied) (y .put-reply .ensures) (p .prepare .ensures .replies))))
+    (written-after (s .args .replies .now) (s .args .replied) (y .put-reply .ensures) (p .prepare .ensures .replies)))))
