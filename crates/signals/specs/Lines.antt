@@ -49,8 +49,12 @@ levels ss s (suc n) = levelAt ss s ∷ levels ss (s + 1) n
 abbrev pub byteOf : Bool → List ℕ → ℕ
 byteOf highFirst rs = number 0 (order highFirst rs)
 
--- Reinit: "six actions, direction then latch, for B, C, D"
+-- "six actions, direction then latch, for B, C, D"
+abbrev pub portActions : ℕ → ℕ → ℕ → ℕ → ℕ → ℕ → List Action
+portActions ddrb portb ddrc portc ddrd portd =
+    action setDirection portB ddrb ∷ action setLatch portB portb ∷ action setDirection portC ddrc ∷ action setLatch portC portc
+    ∷ action setDirection portD ddrd ∷ action setLatch portD portd ∷ []
+
+-- Reinit: "all directions and latches 0"
 abbrev pub reinit : List Action
-reinit =
-    action setDirection portB 0 ∷ action setLatch portB 0 ∷ action setDirection portC 0 ∷ action setLatch portC 0
-    ∷ action setDirection portD 0 ∷ action setLatch portD 0 ∷ []
+reinit = portActions 0 0 0 0 0 0

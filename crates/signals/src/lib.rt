@@ -18,6 +18,7 @@ use registers::Page;
 mod i2c;
 mod lines;
 mod one_wire;
+pub mod ports;
 mod readings;
 mod spi;
 

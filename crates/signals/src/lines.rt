@@ -3,9 +3,10 @@ ghost use mathlib.Core.Path.{_≡_};
 ghost use Prim.Native.Nat.{_+_, _≤_};
 ghost use mathlib.Core.List.{[], _∷_, _++_};
 ghost use lib.ListN.{length};
-ghost use Rattle.wire.specs.Action.{action, bytesOf, setDirection, setLatch, waitCycles, portD, pb7, noLine};
+ghost use Rattle.wire.specs.Action.{action, bytesOf, setLatch, waitCycles, portD, pb7, noLine};
 ghost use Rattle.wire.specs.Buffer.{Written};
 ghost use Rattle.signals.specs.Lines.{low, high, openVerb, drivenVerb, reinit};
+use crate::ports;
 
 const LOW: u8 = wire::VERB_DRIVE_LOW;
 
@@ -27,23 +28,12 @@ pub(crate) fn driven_verb(bit: u8) -> u8
     if bit == 0 { LOW } else { HIGH }
 }
 
-// A port's direction and then its latch, both 0.
-fn put_port(out: &mut [u8], at: usize, port: u8) -> usize
-    requires { ⌜ at + 8 ≤ length (now out) ⌝ }
-    ensures { λ next. ⌜ Written (now (out .entry)) at (bytesOf (action setDirection port 0 ∷ action setLatch port 0 ∷ [])) (now (out .exit)) next ⌝ }
-{
-    let a = wire::put_action(out, at, wire::VERB_DIRECTION, port, 0);
-    wire::put_action(out, a, LATCH, port, 0)
-}
-
-// Reinit: direction then latch, for B, C, D.
+// Reinit: all directions and latches 0.
 pub(crate) fn put_reinit(out: &mut [u8]) -> usize
     requires { ⌜ length (bytesOf reinit) ≤ length (now out) ⌝ }
     ensures { λ n. ⌜ Written (now (out .entry)) 0 (bytesOf reinit) (now (out .exit)) n ⌝ }
 {
-    let c = put_port(out, 0, wire::LINE_PORT_B);
-    let d = put_port(out, c, wire::LINE_PORT_C);
-    put_port(out, d, wire::LINE_PORT_D)
+    ports::put_ports(out, 0, 0, 0, 0, 0, 0)
 }
 
 // Reinit, and then a line driven high.

@@ -1,8 +1,8 @@
 -- One action after another.
 use borrow.Author.Needs.{needs}
 use Rattle.signals.proofs.Rows.{then}
-use Rattle.signals.proofs.lines.put_port.Statement.{statement}
-use Rattle.signals.proofs.lines.put_port.Tie as tie
+use Rattle.signals.proofs.ports.put_port.Statement.{statement}
+use Rattle.signals.proofs.ports.put_port.Tie as tie
 
 pub put-port-spec : {M : Type 1} → statement M
 put-port-spec =

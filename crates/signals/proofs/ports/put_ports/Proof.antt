@@ -1,11 +1,11 @@
 -- One port after another.
 use borrow.Author.Needs.{needs}
 use Rattle.signals.proofs.Rows.{then}
-use Rattle.signals.proofs.lines.put_reinit.Statement.{statement}
-use Rattle.signals.proofs.lines.put_reinit.Tie as tie
+use Rattle.signals.proofs.ports.put_ports.Statement.{statement}
+use Rattle.signals.proofs.ports.put_ports.Tie as tie
 
-pub put-reinit-spec : {M : Type 1} → statement M
-put-reinit-spec =
+pub put-ports-spec : {M : Type 1} → statement M
+put-ports-spec =
     tie.close
     (tie.spec
     (λ c κs. search needs)

@@ -1,0 +1,126 @@
+// Records of a file: a length, a kind and a body each.
+ghost use mathlib.Core.Path.{_≡_};
+ghost use Prim.Native.Nat.{_+_, _*_, _≤_, _<_};
+ghost use lib.ListN.{length};
+ghost use Rattle.session.specs.Records.{word, recordAt, faultOf, kindOf, foundAt};
+use crate::Refusal;
+use registers::Fault;
+
+// How many bytes a record's header has, and the most that its body may have.
+const HEADER: usize = 4;
+
+const MOST: usize = 4096;
+
+// What stands at a place of a file: a record of any kind, whose body is from a start to an end, the end, or a refusal.
+pub enum Record {
+    Body {
+        kind: usize,
+        start: usize,
+        end: usize,
+    },
+    End,
+    Refused(Refusal),
+}
+
+// What a session finds there: bytes, a line fault, samples, the end, or a refusal.
+pub enum Found {
+    Bytes { start: usize, end: usize },
+    LineFault { fault: Fault, start: usize },
+    Samples { start: usize, end: usize },
+    End,
+    Refused(Refusal),
+}
+
+// 16 bits of two bytes.
+fn joined(low: u8, high: u8) -> usize
+    ensures { λ n. ⌜ (n ≡ low + 256 * high) × (n < 65536) ⌝ }
+{
+    low as usize + 256 * (high as usize)
+}
+
+// 16 bits at a place, low byte first. The caller shows that both bytes are there.
+fn word_at(s: &[u8], at: usize) -> usize
+    requires { ⌜ at + 2 ≤ length (now s) ⌝ }
+    ensures { λ n. ⌜ (n ≡ word (now (s .entry)) at) × (n < 65536) ⌝ }
+{
+    joined(s[at], s[at + 1])
+}
+
+// The record at a place: refusals 5 to 7, lowest first.
+pub fn record_at(s: &[u8], at: usize) -> Record
+    ensures { λ r. ⌜ r ≡ recordAt (now (s .entry)) at ⌝ }
+{
+    if s.len() <= at {
+        return Record::End;
+    }
+    let left = s.len() - at;
+    if left < HEADER {
+        return Record::Refused(Refusal::Header);
+    }
+    let n = word_at(s, at);
+    if MOST < n {
+        return Record::Refused(Refusal::Length);
+    }
+    if left - HEADER < n {
+        return Record::Refused(Refusal::Passes);
+    }
+    let kind = word_at(s, at + 2);
+    Record::Body {
+        kind,
+        start: at + HEADER,
+        end: at + HEADER + n,
+    }
+}
+
+// A line fault by its code.
+fn fault_of(code: u8, start: usize) -> Found
+    ensures { λ r. ⌜ r ≡ faultOf code start ⌝ }
+{
+    match code {
+        0x81 => Found::LineFault {
+            fault: Fault::Frame,
+            start,
+        },
+        0x82 => Found::LineFault {
+            fault: Fault::Overrun,
+            start,
+        },
+        0x83 => Found::LineFault {
+            fault: Fault::Parity,
+            start,
+        },
+        _ => Found::Refused(Refusal::FaultBody),
+    }
+}
+
+// What a session makes of a body by its kind: refusals 8 and 9.
+fn kind_of(s: &[u8], kind: usize, start: usize, end: usize) -> Found
+    requires { ⌜ (start ≤ end) × (end ≤ length (now s)) ⌝ }
+    ensures { λ r. ⌜ r ≡ kindOf (now (s .entry)) kind start end ⌝ }
+{
+    if kind == 1 {
+        return Found::Bytes { start, end };
+    }
+    if kind == 2 {
+        if end - start == 1 {
+            return fault_of(s[start], start);
+        }
+        return Found::Refused(Refusal::FaultBody);
+    }
+    if kind == 3 {
+        return Found::Samples { start, end };
+    }
+    Found::Refused(Refusal::Kind)
+}
+
+// What a session finds at a place.
+pub fn find(s: &[u8], at: usize) -> Found
+    ensures { λ r. ⌜ r ≡ foundAt (now (s .entry)) at ⌝ }
+{
+    let there = record_at(s, at);
+    match there {
+        Record::Body { kind, start, end } => kind_of(s, kind, start, end),
+        Record::End => Found::End,
+        Record::Refused(why) => Found::Refused(why),
+    }
+}

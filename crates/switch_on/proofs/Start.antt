@@ -1,0 +1,8 @@
+-- The factory start, by computation. Assumes nothing.
+use mathlib.Core.Path.{refl}
+use Rattle.switch_on.specs.Images.{isGood, usedOf}
+use Rattle.switch_on.specs.Start.{FactoryStart}
+
+pub factory-start : FactoryStart
+unfolding isGood usedOf
+factory-start = refl

@@ -1,0 +1,4 @@
+pub mod Images
+pub mod SwitchOn
+pub mod Saved
+pub mod Start

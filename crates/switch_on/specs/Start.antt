@@ -1,0 +1,17 @@
+-- The start of a session (01, "Session file"): "Start is factory, 00 seven times and FF three, IOG count FF, version and serial 0".
+use mathlib.Core.Path.{_≡_}
+use mathlib.Core.List.{List, [], _∷_}
+use Prim.Native.Nat.{ℕ}
+use Rattle.packet.specs.Register.{zeros}
+use Rattle.bridge.specs.Edges.{factory}
+use Rattle.switch_on.specs.SwitchOn.{Device, onState}
+
+abbrev pub factoryImage : List ℕ
+factoryImage = 0x00 ∷ 0x00 ∷ 0x00 ∷ 0x00 ∷ 0x00 ∷ 0x00 ∷ 0x00 ∷ 0xFF ∷ 0xFF ∷ 0xFF ∷ []
+
+abbrev pub device : Device
+device = record { cycles = 0xFF; version = 0; serial = zeros 4 }
+
+-- THEOREM (proofs/Start.antt, `factory-start`): switch-on with no stored image gives the start that P1 to P12 are about
+abbrev pub FactoryStart : Type 0
+FactoryStart = onState [] factoryImage device ≡ factory

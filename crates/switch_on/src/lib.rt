@@ -1,0 +1,158 @@
+// Switch-on: a bridge made from stored settings.
+ghost use mathlib.Core.Path.{_≡_};
+ghost use Prim.Native.Nat.{_≤_, _/_};
+ghost use lib.ListN.{length};
+ghost use Rattle.wire.specs.Action.{bytesOf};
+ghost use Rattle.switch_on.specs.SwitchOn.{numberOf, epromOf, stateOf, onActions, zeroState, switched, refusal, onPage, onState, switchOf, settingsOf};
+
+mod actions;
+mod images;
+
+use bridge::Bridge;
+use registers::Page;
+use registers::Shared;
+use registers::State;
+use registers::Wait;
+
+// What the device has besides an image: the IOG count, the version and the serial number, low byte first.
+pub struct Device {
+    pub cycles: u8,
+    pub version: u8,
+    pub serial: [u8; 4],
+}
+
+// Why switch-on is refused; `numberOf` in the definitions gives each its number.
+pub enum Refusal {
+    Actions,
+    Factory,
+}
+
+// Whether the bridge is on.
+pub enum Outcome {
+    On,
+    Refused(Refusal),
+}
+
+// What switch-on answers: the bridge, the outcome, and how many actions were written.
+pub struct SwitchedOn {
+    pub bridge: Bridge,
+    pub outcome: Outcome,
+    pub actions: usize,
+}
+
+// A refusal's number in 01.
+pub fn number(r: Refusal) -> u8
+    ensures { λ n. ⌜ n ≡ numberOf r ⌝ }
+{
+    match r {
+        Refusal::Actions => 3,
+        Refusal::Factory => 11,
+    }
+}
+
+// The state where all is zero.
+fn zero() -> State
+    ensures { λ s. ⌜ s ≡ zeroState ⌝ }
+{
+    State {
+        page: Page {
+            flags: 0,
+            error: 0,
+            ddrb: 0,
+            portb: 0,
+            ddrc: 0,
+            portc: 0,
+            ddrd: 0,
+            portd: 0,
+            config: 0,
+            configured: false,
+            size: 0,
+            packet: [0; packet::BYTES],
+            timings: [0; registers::TIMINGS],
+        },
+        shared: Shared {
+            eprom: [0; 10],
+            cycles: 0,
+            version: 0,
+            serial: [0; 4],
+        },
+        wait: Wait::Nothing,
+        held: [0; registers::HELD],
+    }
+}
+
+// A refused switch-on: an all-zero state and no action.
+fn refused(why: Refusal) -> SwitchedOn
+    ensures { λ r. ⌜ r ≡ refusal why ⌝ }
+{
+    let s = zero();
+    SwitchedOn {
+        bridge: Bridge { state: s },
+        outcome: Outcome::Refused(why),
+        actions: 0,
+    }
+}
+
+// The state at switch-on: nothing is waited for.
+fn state(page: Page, eprom: [u8; 10], device: Device) -> State
+    ensures { λ s. ⌜ s ≡ stateOf page eprom device ⌝ }
+{
+    let serial = device.serial;
+    let shared = Shared {
+        eprom,
+        cycles: device.cycles,
+        version: device.version,
+        serial,
+    };
+    State {
+        page,
+        shared,
+        wait: Wait::Nothing,
+        held: [0; registers::HELD],
+    }
+}
+
+// The part of one of the two images that is used; where switch-on is refused, the empty front part of the factory image. The
+// room is the size of the buffer for the actions, with its mark.
+pub fn settings<'a>(stored: &'a [u8], factory: &'a [u8], room: usize, mark: usize) -> &'a [u8]
+    ensures { λ r. ⌜ now r ≡ settingsOf (now (stored .entry)) (now (factory .entry)) room mark ⌝ }
+{
+    if !images::is_good(factory) {
+        return &factory[..0];
+    }
+    let used = images::used(stored, factory);
+    let page = images::page(used);
+    if !wire::fits(room, mark, actions::size(page)) {
+        return &factory[..0];
+    }
+    used
+}
+
+// Switches the bridge on: its actions go to a lent buffer from a mark on.
+pub fn switch_on<'a>(
+    stored: &'a [u8],
+    factory: &'a [u8],
+    device: Device,
+    buffer: &mut [u8],
+    mark: usize,
+) -> SwitchedOn
+    ensures { λ r. ⌜ switched r (now (buffer .exit)) ≡ switchOf (now (stored .entry)) (now (factory .entry)) device (now (buffer .entry)) mark ⌝ }
+{
+    if !images::is_good(factory) {
+        return refused(Refusal::Factory);
+    }
+    let used = images::used(stored, factory);
+    let page = images::page(used);
+    let n = actions::size(page);
+    if !wire::fits(buffer.len(), mark, n) {
+        return refused(Refusal::Actions);
+    }
+    let eprom = images::eprom(stored, factory);
+    let s = state(page, eprom, device);
+    actions::put(&mut buffer[mark..], page);
+    SwitchedOn {
+        bridge: Bridge { state: s },
+        outcome: Outcome::On,
+        actions: n / wire::ACTION_BYTES,
+    }
+}
