@@ -145,7 +145,7 @@ fn timing_byte(s: State, left: u8, x: u8) -> Plan
     requires { ⌜ (1 ≤ left) × (left ≤ 9) ⌝ }
     ensures { λ p. ⌜ p ≡ timingsPlan s left x ⌝ }
 {
-    let i = (9 - left) as usize;
+    let i = registers::TIMINGS - left as usize;
     let mut held = s.held;
     held[i] = x;
     if left == 1 {

@@ -51,7 +51,12 @@ pub(crate) fn run(s: State, c: WireCommand) -> Plan
         WireCommand::SendWireStrong => awaiting(s, Wait::One(Operand::ToWireStrong)),
         WireCommand::ReadWire => make(s, Waveform::ReadWire, Answer::SendsSample),
         WireCommand::ReadWireBit => make(s, Waveform::ReadWireBit, Answer::SendsLevel),
-        WireCommand::LoadTimings => awaiting(s, Wait::Timings { left: 9 }),
+        WireCommand::LoadTimings => awaiting(
+            s,
+            Wait::Timings {
+                left: registers::TIMINGS as u8,
+            },
+        ),
         WireCommand::ReadTimings => sending(s, Answer::SendsTimings),
         WireCommand::ReleaseDq => performing(
             s,

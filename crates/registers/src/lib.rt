@@ -127,7 +127,7 @@ fn wait_fits(w: Wait, flags: u8, configured: bool, size: u8) -> bool
         Wait::Packet { left, exchange: _ } => {
             (flags / 2 % 2 == 1) & configured & (1 <= left) & (left <= size / 8 + 1)
         }
-        Wait::Timings { left } => (flags / 4 % 2 == 1) & (1 <= left) & (left <= 9),
+        Wait::Timings { left } => (flags / 4 % 2 == 1) & (1 <= left) & (left as usize <= TIMINGS),
     }
 }
 

@@ -16,6 +16,7 @@ wait-fits-spec =
     (λ c. search needs)
     (λ c. search needs)
     (λ c. search needs)
+    (λ c. search needs)
     (λ c. rw (c .before .before .w .given .1) (c .operand-fits .ensures))
     (λ c. search needs)
     (λ c. rw (c .before .w2 .given .1, ← most-left (c .before .before .before .args .size)))

@@ -12,7 +12,6 @@ timing-byte-spec =
     (tie.spec
     (λ c. search needs)
     (λ c. search needs)
-    (λ c. search needs)
     (λ c κs. search needs)
     (λ c. c .settling .ensures ∙ when _ _ _ (eq-eqb _ _ (c .before .before .if1 .taken)))
     (λ c. search needs)
