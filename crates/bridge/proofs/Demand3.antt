@@ -1,8 +1,7 @@
 -- Demand 3: the bridge's calls follow the grammar's scanner. Assumes nothing.
-use Prim.Native.Nat.{ℕ, _<_}
+use Prim.Native.Nat.{ℕ}
 use mathlib.Core.Path.{_≡_, refl, sym, ap, subst}
-use mathlib.Core.Bool.{Bool, true, false, false≢true}
-use mathlib.Core.List.{List}
+use mathlib.Core.Bool.{true, false, false≢true}
 use native.Mathlib.Omega.{arith}
 use Rattle.registers.specs.Ranges.{InRange}
 use Rattle.registers.specs.declared.State.{State}

@@ -1,6 +1,6 @@
 -- The judge's call answers as 01 says. Assumes nothing.
 use Prim.Native.Nat.{ℕ}
-use mathlib.Core.Path.{_≡_, refl, sym, ap, _∙_, subst}
+use mathlib.Core.Path.{_≡_, refl, sym, ap, _∙_}
 use mathlib.Core.Bool.{Bool, true, false, cond, false≢true}
 use mathlib.Core.List.{List}
 use mathlib.Core.Logic.{_↔_}
@@ -11,7 +11,6 @@ use Rattle.registers.specs.declared.Wait.the-variants as v
 use Rattle.registers.proofs.InRange.{range-test}
 use Rattle.grammar.specs.Verdict.{judgeOf, Says}
 use Rattle.grammar.specs.declared.Verdict.{Verdict}
-use Rattle.grammar.specs.declared.Context.{Context}
 use Rattle.grammar.proofs.Verdicts.{judge-right}
 use Rattle.bridge.specs.Calls.{Bridge, Ranges, Waits}
 use Rattle.bridge.specs.Views.{contextOf}

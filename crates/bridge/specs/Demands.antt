@@ -17,7 +17,7 @@ use Rattle.commands.specs.Said.{codesOf, isRejected}
 use Rattle.commands.specs.Plans.{sentBy}
 use Rattle.grammar.specs.Calls.{Machine, Call}
 use Rattle.grammar.specs.Calls as grammar
-use Rattle.bridge.specs.Calls.{Bridge, Refusal, Ranges, Samples, Actions, Replies, Waits, Outcome, Taken, Refused, numberOf, Lent, Given, effect, refused, taken, answerOf}
+use Rattle.bridge.specs.Calls.{Bridge, Refusal, Ranges, Samples, Actions, Replies, Waits, Outcome, Taken, Refused, numberOf, Lent, effect, refused, taken, answerOf}
 use Rattle.bridge.specs.Views.{contextOf}
 
 abbrev pub outcome : Bridge → Event → Lent → Outcome

@@ -8,21 +8,12 @@ use Rattle.wire.specs.Codes.{anyRejecting}
 use Rattle.packet.specs.Packet.{lowBytes}
 use Rattle.registers.specs.Registers.{bitsIn}
 use Rattle.registers.specs.declared.State.{State}
-use Rattle.registers.specs.declared.Operand.the-variants as o
-use Rattle.registers.specs.declared.Wait.the-variants as v
-use Rattle.registers.specs.declared.Fault.the-variants as f
 use Rattle.registers.specs.declared.Event.{Event}
-use Rattle.registers.specs.declared.Event.the-variants as e
 use Rattle.signals.specs.Waveforms.{waveOf}
 use Rattle.commands.specs.Said.{sent, errorAfter, codesOf, isRejected}
 use Rattle.commands.specs.Plans.{Plan, Answer, Silent, Returns, ReturnsTwice, ReturnsAndSends, Checked, Sends, SendsSample, SendsLevel, SendsEprom, SendsSerial, SendsTimings, SendsPacket, SendsLow, ReturnsThenLow, returns, sends, saidOf, Effect, carriedOut}
 use Rattle.commands.specs.Events.{planOf, effectOf}
 use Rattle.commands.specs.Promises.{OnlyError, Rejects}
-use Rattle.commands.specs.declared.CommonCommand.the-variants as k
-use Rattle.commands.specs.declared.ExtendedCommand.the-variants as x
-use Rattle.commands.specs.declared.I2cCommand.the-variants as i
-use Rattle.commands.specs.declared.SpiCommand.the-variants as p
-use Rattle.commands.specs.declared.WireCommand.the-variants as w
 use Rattle.commands.proofs.Sent.{codes-sent}
 use Rattle.commands.proofs.Clauses.{rejects, calm, Clause, fine, long, coded, coded-always, plan-clause}
 

@@ -1,7 +1,7 @@
 -- Records of a file (01, "Session file"): "body length (16 bits), kind (16 bits), little-endian, then the body", of any kind; and
 -- what a session makes of them.
 use Prim.Native.Nat.{ℕ, _+_, _-_, _*_}
-use mathlib.Core.Bool.{cond, _&&_}
+use mathlib.Core.Bool.{cond}
 use mathlib.Core.List.{List}
 use lib.Dec.{eqb, leb, ltb}
 use lib.ListN.{getD, length}

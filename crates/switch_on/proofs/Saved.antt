@@ -7,11 +7,10 @@ use borrow.Author.Tests.{lt-ltb, le-leb, eq-eqb}
 use lib.Dec.{eqb}
 use Rattle.packet.specs.Packet.{width}
 use Rattle.registers.specs.Registers.{spiSelected}
-use Rattle.registers.specs.Ranges.{PageInRange}
 use Rattle.registers.specs.declared.Page.{Page}
 use Rattle.commands.specs.Common.{imageMark, imageOf}
 use Rattle.switch_on.specs.Images.{goodTail, isGood, autoloadOn, usedOf}
-use Rattle.switch_on.specs.SwitchOn.{pageOf, onPage}
+use Rattle.switch_on.specs.SwitchOn.{pageOf}
 use Rattle.switch_on.specs.Saved.{SavedGood, Back, SavedBack}
 
 tail-good : (spi configured : Bool) (config size : ℕ) → config ≤ 7 → size < width → goodTail spi (cond spi config 0xFF) (cond spi size 0xFF) (cond spi (imageMark configured) 0xFF) ≡ true

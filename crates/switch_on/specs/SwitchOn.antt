@@ -1,6 +1,6 @@
 -- What switch-on gives (01, "Switch-on"): the bridge, the actions, and the settings used; refusals 11 and 3.
 use Prim.Native.Nat.{ℕ}
-use mathlib.Core.Bool.{Bool, true, false, cond, _&&_}
+use mathlib.Core.Bool.{Bool, false, cond, _&&_}
 use mathlib.Core.List.{List, [], _∷_, _++_}
 use lib.Dec.{eqb}
 use lib.ListN.{getD, length}

@@ -1,9 +1,7 @@
 // Switch-on: a bridge made from stored settings.
 ghost use mathlib.Core.Path.{_≡_};
-ghost use Prim.Native.Nat.{_≤_, _/_};
-ghost use lib.ListN.{length};
-ghost use Rattle.wire.specs.Action.{bytesOf};
-ghost use Rattle.switch_on.specs.SwitchOn.{numberOf, epromOf, stateOf, onActions, zeroState, switched, refusal, onPage, onState, switchOf, settingsOf};
+ghost use Prim.Native.Nat.{_/_};
+ghost use Rattle.switch_on.specs.SwitchOn.{numberOf, stateOf, zeroState, switched, refusal, switchOf, settingsOf};
 
 mod actions;
 mod images;

@@ -1,7 +1,7 @@
 -- Refused for its ranges, refused for its wait, or judged.
 use borrow.Author.Needs.{needs}
 use borrow.Author.Tests.{not-true, not-false}
-use mathlib.Core.Path.{sym, ap, _∙_}
+use mathlib.Core.Path.{sym, _∙_}
 use Rattle.registers.proofs.InRange.{range-test}
 use Rattle.bridge.specs.Judging.{judgementOf}
 use Rattle.bridge.proofs.Bridge.judge.Statement.{statement}
