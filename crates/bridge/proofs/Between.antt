@@ -23,7 +23,7 @@ use Rattle.registers.specs.declared.Shared.{Shared}
 use Rattle.registers.specs.declared.State.{State}
 use Rattle.registers.specs.declared.Wait.the-variants as v
 use Rattle.commands.specs.Plans.{returns}
-use Rattle.commands.specs.Common.{keptFlags, withBit, withoutBit, commonOf, runCommon}
+use Rattle.commands.specs.Common.{keptFlags, withBit, commonOf, runCommon}
 use Rattle.commands.specs.I2c.{i2cOf, runI2c}
 use Rattle.commands.specs.Spi.{spiOf, runSpi}
 use Rattle.commands.specs.OneWire.{wireOf, runWire}
@@ -61,10 +61,8 @@ module _ (page : Page) (shared : Shared) (held : List ℕ) (b : ℕ) where
   common-agrees k.ReadError = (refl, refl)
   common-agrees k.SaveToEprom = (refl, refl)
   common-agrees k.ReadFromEprom = (refl, refl)
-  common-agrees k.EnableReports = (refl, flags-view (withBit Three (page .flags)) (page .flags) (omega arith))
-  common-agrees k.DisableReports = (refl, flags-view (withoutBit Three (page .flags)) (page .flags) (omega arith))
-  common-agrees k.EnableAutoload = (refl, flags-view (withBit Four (page .flags)) (page .flags) (omega arith))
-  common-agrees k.DisableAutoload = (refl, flags-view (withoutBit Four (page .flags)) (page .flags) (omega arith))
+  common-agrees (k.SetReports on) = (refl, flags-view (withBit Three on (page .flags)) (page .flags) (omega arith))
+  common-agrees (k.SetAutoload on) = (refl, flags-view (withBit Four on (page .flags)) (page .flags) (omega arith))
   common-agrees (k.SetupPort a) = (refl, refl)
   common-agrees (k.ReadPort a) = (refl, refl)
   common-agrees (k.ReadPins a) = (refl, refl)

@@ -38,10 +38,8 @@ module _ (s : State) (b : ℕ) where
 
   -- AFTER 1D
   pub extended-agrees : (c : ExtendedCommand) → Opens s b (extendedOpening b c) (runExtended s c)
-  extended-agrees (x.PulseUp a c) = (refl, port-view a _)
-  extended-agrees (x.PulseDown a c u n) = (refl, port-view a _)
-  extended-agrees (x.SetBit a c) = (refl, port-view a _)
-  extended-agrees (x.ClearBit a c) = (refl, port-view a _)
+  extended-agrees (x.Pulse a c level u n) = (refl, port-view a _)
+  extended-agrees (x.SetBit a c on) = (refl, port-view a _)
   extended-agrees x.LoadCycles = (refl, refl)
   extended-agrees x.ReadCycles = (refl, refl)
   extended-agrees x.NoExtended = returns-code s 0x80

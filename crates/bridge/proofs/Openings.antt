@@ -44,10 +44,8 @@ commonOpening b k.ChooseWire = row b Common None (Select OneWire)
 commonOpening b k.ReadError = row b Common None Keep
 commonOpening b k.SaveToEprom = row b Common None Keep
 commonOpening b k.ReadFromEprom = row b Common None Keep
-commonOpening b k.EnableReports = row b Common None Keep
-commonOpening b k.DisableReports = row b Common None Keep
-commonOpening b k.EnableAutoload = row b Common None Keep
-commonOpening b k.DisableAutoload = row b Common None Keep
+commonOpening b (k.SetReports on) = row b Common None Keep
+commonOpening b (k.SetAutoload on) = row b Common None Keep
 commonOpening b (k.SetupPort r) = row b Common One Keep
 commonOpening b (k.ReadPort r) = row b Common None Keep
 commonOpening b (k.ReadPins line) = row b Common None Keep
@@ -59,10 +57,8 @@ commonOpening b k.ReadSerial = row b Common None Keep
 commonOpening b k.NoCommon = Unknown
 
 abbrev pub extendedOpening : ℕ → ExtendedCommand → Opening
-extendedOpening b (x.PulseUp r t) = row b Common None Keep
-extendedOpening b (x.PulseDown r t unit n) = row b Common None Keep
-extendedOpening b (x.SetBit r t) = row b Common None Keep
-extendedOpening b (x.ClearBit r t) = row b Common None Keep
+extendedOpening b (x.Pulse r t level unit n) = row b Common None Keep
+extendedOpening b (x.SetBit r t on) = row b Common None Keep
 extendedOpening b x.LoadCycles = row b Common One Keep
 extendedOpening b x.ReadCycles = row b Common None Keep
 extendedOpening b x.NoExtended = Unknown

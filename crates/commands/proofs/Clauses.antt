@@ -1,9 +1,10 @@
 -- Every clause of 01's sections, sorted by what it may answer: read once, for the laws about all events. Assumes nothing.
 use Prim.Native.Nat.{ℕ}
 use mathlib.Core.Path.{_≡_, refl}
-use mathlib.Core.Bool.{Bool, true, false, not, cond, _||_}
+use mathlib.Core.Bool.{Bool, true, false, not, cond}
 use mathlib.Core.List.{List}
 use lib.Dec.{eqb, ltb}
+use Rattle.wire.specs.Codes.{rejecting}
 use Rattle.registers.specs.Registers.{i2cSelected, spiSelected, wireSelected}
 use Rattle.registers.specs.declared.State.{State}
 use Rattle.registers.specs.declared.Operand.{Operand}
@@ -28,15 +29,12 @@ use Rattle.commands.specs.declared.WireCommand.the-variants as w
 
 -- ANSWERS THAT REJECT NOTHING
 
-abbrev pub rejects : ℕ → Bool
-rejects code = eqb code 0x80 || eqb code 0x40
-
 abbrev pub calm : Answer → Bool
 calm Silent = true
-calm (Returns code) = not (rejects code)
+calm (Returns code) = not (rejecting code)
 calm ReturnsTwice = true
 calm (ReturnsAndSends code) = false
-calm (Checked code) = not (rejects code)
+calm (Checked code) = not (rejecting code)
 calm (Sends v) = true
 calm SendsSample = true
 calm SendsLevel = true
@@ -85,10 +83,8 @@ module _ (s : State) where
   common-clause k.ReadError = fine refl refl
   common-clause k.SaveToEprom = fine refl refl
   common-clause k.ReadFromEprom = long refl refl
-  common-clause k.EnableReports = fine refl refl
-  common-clause k.DisableReports = fine refl refl
-  common-clause k.EnableAutoload = fine refl refl
-  common-clause k.DisableAutoload = fine refl refl
+  common-clause (k.SetReports on) = fine refl refl
+  common-clause (k.SetAutoload on) = fine refl refl
   common-clause (k.SetupPort a) = fine refl refl
   common-clause (k.ReadPort a) = fine refl refl
   common-clause (k.ReadPins a) = fine refl refl
@@ -100,10 +96,8 @@ module _ (s : State) where
   common-clause k.NoCommon = coded 0x80 refl
 
   extended-clause : (c : ExtendedCommand) → Clause s (runExtended s c)
-  extended-clause (x.PulseUp a b) = fine refl refl
-  extended-clause (x.PulseDown a b u m) = fine refl refl
-  extended-clause (x.SetBit a b) = fine refl refl
-  extended-clause (x.ClearBit a b) = fine refl refl
+  extended-clause (x.Pulse a b level u m) = fine refl refl
+  extended-clause (x.SetBit a b on) = fine refl refl
   extended-clause x.LoadCycles = fine refl refl
   extended-clause x.ReadCycles = fine refl refl
   extended-clause x.NoExtended = coded 0x80 refl

@@ -1,7 +1,7 @@
 -- Every event keeps the ranges. Assumes nothing.
 use Prim.Native.Nat.{ℕ, _-_, _%_, _<_, _≤_}
 use mathlib.Core.Path.{_≡_, refl}
-use mathlib.Core.Bool.{Bool, true, false}
+use mathlib.Core.Bool.{Bool, true, false, not}
 use native.Mathlib.Omega.{arith}
 use borrow.Author.Tests.{eqb-false}
 use lib.Dec.{eqb, ltb}
@@ -32,7 +32,7 @@ use Rattle.commands.specs.declared.ExtendedCommand.the-variants as x
 use Rattle.commands.specs.declared.I2cCommand.the-variants as i
 use Rattle.commands.specs.declared.SpiCommand.the-variants as p
 use Rattle.commands.specs.declared.WireCommand.the-variants as w
-use Rattle.commands.proofs.KeptParts.{page-register, protected-fits, on-fits, off-fits, register-fits, flag-count, page-flags, idle-page, waits, settles, Kept, kept-cond}
+use Rattle.commands.proofs.KeptParts.{page-register, protected-fits, bit-most, bit-fits, register-fits, flag-count, page-flags, idle-page, waits, settles, Kept, kept-cond}
 
 -- THE PAGES OF 00 TO 03
 
@@ -59,26 +59,22 @@ module _ (s : State) (n : InRange s) where
   common-keeps e k.ReadError = record { page = q; wait = n .wait }
   common-keeps e k.SaveToEprom = record { page = q; wait = n .wait }
   common-keeps e k.ReadFromEprom = n
-  common-keeps e k.EnableReports = idle-page s _ e (page-flags (s .page) _ q (omega (arith, q .flag-bits)) (omega arith))
-  common-keeps e k.DisableReports = idle-page s _ e (page-flags (s .page) _ q (omega (arith, q .flag-bits)) (omega arith))
-  common-keeps e k.EnableAutoload = idle-page s _ e (page-flags (s .page) _ q (omega (arith, q .flag-bits)) (omega arith))
-  common-keeps e k.DisableAutoload = idle-page s _ e (page-flags (s .page) _ q (omega (arith, q .flag-bits)) (omega arith))
+  common-keeps e (k.SetReports on) = idle-page s _ e (page-flags (s .page) _ q (omega (arith, q .flag-bits, bit-most on)) (omega arith))
+  common-keeps e (k.SetAutoload on) = idle-page s _ e (page-flags (s .page) _ q (omega (arith, q .flag-bits, bit-most on)) (omega arith))
   common-keeps e (k.SetupPort a) = waits s (v.One (o.ToPort a)) q tt
   common-keeps e (k.ReadPort a) = n
   common-keeps e (k.ReadPins a) = n
   common-keeps e k.ReadFlags = n
   common-keeps e k.ReadVersion = n
-  common-keeps e k.SetIog = idle-page s _ e (page-register (s .page) r.Portd _ q (on-fits r.Portd Three _ (on-fits r.Portd Four (s .page .portd) (q .d-latch))))
+  common-keeps e k.SetIog = idle-page s _ e (page-register (s .page) r.Portd _ q (bit-fits r.Portd Three true _ (bit-fits r.Portd Four true (s .page .portd) (q .d-latch))))
   common-keeps e k.DoExtended = waits s v.Extended q tt
   common-keeps e k.ReadSerial = n
   common-keeps e k.NoCommon = n
 
   extended-keeps : (c : ExtendedCommand) → Kept (runExtended s c)
   unfolding q Kept
-  extended-keeps (x.PulseUp a b) = settles s _ (page-register (s .page) a _ q (off-fits a b _ (on-fits a b _ (register-fits (s .page) a q))))
-  extended-keeps (x.PulseDown a b u m) = settles s _ (page-register (s .page) a _ q (on-fits a b _ (off-fits a b _ (register-fits (s .page) a q))))
-  extended-keeps (x.SetBit a b) = settles s _ (page-register (s .page) a _ q (on-fits a b _ (register-fits (s .page) a q)))
-  extended-keeps (x.ClearBit a b) = settles s _ (page-register (s .page) a _ q (off-fits a b _ (register-fits (s .page) a q)))
+  extended-keeps (x.Pulse a b level u m) = settles s _ (page-register (s .page) a _ q (bit-fits a b (not level) _ (bit-fits a b level _ (register-fits (s .page) a q))))
+  extended-keeps (x.SetBit a b on) = settles s _ (page-register (s .page) a _ q (bit-fits a b on _ (register-fits (s .page) a q)))
   extended-keeps x.LoadCycles = waits s (v.One o.ToCycles) q tt
   extended-keeps x.ReadCycles = settles s (s .page) q
   extended-keeps x.NoExtended = n

@@ -1,5 +1,5 @@
 -- What keeps the ranges: the registers' rules, and how a state is put together. Assumes nothing.
-use Prim.Native.Nat.{ℕ, _+_, _*_, _/_, _%_, _<_}
+use Prim.Native.Nat.{ℕ, _+_, _*_, _/_, _%_, _<_, _≤_}
 use mathlib.Core.Path.{_≡_, refl, sym, ap, subst, _∙_}
 use mathlib.Core.Bool.{Bool, true, false, cond}
 use native.Mathlib.Omega.{arith}
@@ -12,7 +12,7 @@ use Rattle.registers.specs.declared.PortRegister.the-variants as r
 use Rattle.registers.specs.declared.Wait.{Wait}
 use Rattle.registers.specs.declared.Wait.the-variants as v
 use Rattle.commands.specs.Plans.{Plan}
-use Rattle.commands.specs.Common.{Bit, Three, Four, Five, withBit, withoutBit, keptFlags}
+use Rattle.commands.specs.Common.{Bit, Three, Four, Five, bitOf, withBit, keptFlags}
 
 -- PORT REGISTERS
 
@@ -47,42 +47,29 @@ protected-fits p r.Portc n q = keep-c (p .portc) n (q .c-latch)
 protected-fits p r.Ddrd n q = keep-d (p .ddrd) n (q .d-direction)
 protected-fits p r.Portd n q = keep-d (p .portd) n (q .d-latch)
 
+-- a bit set or cleared is at most 1
+pub bit-most : (on : Bool) → bitOf on ≤ 1
+bit-most true = omega arith
+bit-most false = omega arith
+
 -- a bit that a command sets or clears leaves a port register in its range
-low-two-on : (b : Bit) (x : ℕ) → x % 4 ≡ 0 → withBit b x % 4 ≡ 0
-low-two-on Three x h = omega arith
-low-two-on Four x h = omega arith
-low-two-on Five x h = omega arith
+low-two : (b : Bit) (on : Bool) (x : ℕ) → x % 4 ≡ 0 → withBit b on x % 4 ≡ 0
+low-two Three on x h = omega arith
+low-two Four on x h = omega arith
+low-two Five on x h = omega arith
 
-low-two-off : (b : Bit) (x : ℕ) → x % 4 ≡ 0 → withoutBit b x % 4 ≡ 0
-low-two-off Three x h = omega arith
-low-two-off Four x h = omega arith
-low-two-off Five x h = omega arith
+low-six : (b : Bit) (on : Bool) (x : ℕ) → x < 64 → withBit b on x < 64
+low-six Three on x h = omega (arith, bit-most on)
+low-six Four on x h = omega (arith, bit-most on)
+low-six Five on x h = omega (arith, bit-most on)
 
-low-six-on : (b : Bit) (x : ℕ) → x < 64 → withBit b x < 64
-low-six-on Three x h = omega arith
-low-six-on Four x h = omega arith
-low-six-on Five x h = omega arith
-
-low-six-off : (b : Bit) (x : ℕ) → x < 64 → withoutBit b x < 64
-low-six-off Three x h = omega arith
-low-six-off Four x h = omega arith
-low-six-off Five x h = omega arith
-
-pub on-fits : (r : PortRegister) (b : Bit) (x : ℕ) → Fits r x → Fits r (withBit b x)
-on-fits r.Ddrb b x f = tt
-on-fits r.Portb b x f = tt
-on-fits r.Ddrc b x f = low-six-on b x f
-on-fits r.Portc b x f = low-six-on b x f
-on-fits r.Ddrd b x f = low-two-on b x f
-on-fits r.Portd b x f = low-two-on b x f
-
-pub off-fits : (r : PortRegister) (b : Bit) (x : ℕ) → Fits r x → Fits r (withoutBit b x)
-off-fits r.Ddrb b x f = tt
-off-fits r.Portb b x f = tt
-off-fits r.Ddrc b x f = low-six-off b x f
-off-fits r.Portc b x f = low-six-off b x f
-off-fits r.Ddrd b x f = low-two-off b x f
-off-fits r.Portd b x f = low-two-off b x f
+pub bit-fits : (r : PortRegister) (b : Bit) (on : Bool) (x : ℕ) → Fits r x → Fits r (withBit b on x)
+bit-fits r.Ddrb b on x f = tt
+bit-fits r.Portb b on x f = tt
+bit-fits r.Ddrc b on x f = low-six b on x f
+bit-fits r.Portc b on x f = low-six b on x f
+bit-fits r.Ddrd b on x f = low-two b on x f
+bit-fits r.Portd b on x f = low-two b on x f
 
 pub register-fits : (p : Page) (r : PortRegister) → PageInRange p → Fits r (registerOf p r)
 register-fits p r.Ddrb q = tt

@@ -4,7 +4,7 @@ use mathlib.Core.Path.{_≡_, refl, sym, ap, _∙_, subst}
 use mathlib.Core.Bool.{Bool, true, false, not, cond, _||_, true≢false, false≢true}
 use mathlib.Core.List.{List, map}
 use lib.Dec.{eqb}
-use Rattle.wire.specs.Codes.{anyRejecting}
+use Rattle.wire.specs.Codes.{rejecting, anyRejecting}
 use Rattle.packet.specs.Packet.{lowBytes}
 use Rattle.registers.specs.Registers.{bitsIn}
 use Rattle.registers.specs.declared.State.{State}
@@ -15,7 +15,7 @@ use Rattle.commands.specs.Plans.{Plan, Answer, Silent, Returns, ReturnsT
 use Rattle.commands.specs.Events.{planOf, effectOf}
 use Rattle.commands.specs.Promises.{OnlyError, Rejects}
 use Rattle.commands.proofs.Sent.{codes-sent}
-use Rattle.commands.proofs.Clauses.{rejects, calm, Clause, fine, long, coded, coded-always, plan-clause}
+use Rattle.commands.proofs.Clauses.{calm, Clause, fine, long, coded, coded-always, plan-clause}
 
 or-false : (t : Bool) → not t ≡ true → t || false ≡ false
 or-false true h = sym h
@@ -27,14 +27,14 @@ data-calm xs = ap anyRejecting (codes-sent xs)
 pub calm-said : (s : State) (n : ℕ) (a : Answer) → calm a ≡ true → isRejected (saidOf s n a) ≡ false
 unfolding codesOf
 calm-said s n Silent h = refl
-calm-said s n (Returns code) h = or-false (rejects code) h
+calm-said s n (Returns code) h = or-false (rejecting code) h
 calm-said s n ReturnsTwice h = refl
 calm-said s n (ReturnsAndSends code) h = absurd (false≢true h)
 calm-said s n (Checked code) h = go (eqb n 0)
   where
-    go : (t : Bool) → rejects (cond t 0 code) || false ≡ false
+    go : (t : Bool) → rejecting (cond t 0 code) || false ≡ false
     go true = refl
-    go false = or-false (rejects code) h
+    go false = or-false (rejecting code) h
 calm-said s n (Sends v) h = refl
 calm-said s n SendsSample h = refl
 calm-said s n SendsLevel h = refl

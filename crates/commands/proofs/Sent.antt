@@ -1,14 +1,14 @@
 -- Data sent leaves ERROR and is sent whole. Assumes nothing.
 use Prim.Native.Nat.{ℕ}
 use mathlib.Core.Path.{_≡_, refl, sym, ap, _∙_}
-use mathlib.Core.Bool.{Bool, true, false}
+use mathlib.Core.Bool.{Bool, cond}
 use mathlib.Core.List.{List, [], _∷_, map}
 use Rattle.registers.specs.Registers.{reportsOn, withPage, withError}
 use Rattle.registers.specs.declared.State.{State}
 use Rattle.commands.specs.Said.{returned, sent, errorAfter, repliesOf, codesOf}
 use Rattle.commands.specs.Plans.{settledOf}
 use Rattle.commands.specs.Replies.{settlement, settlementOf}
-use Rattle.commands.proofs.Choices.{when, unless}
+use Rattle.commands.proofs.Choices.{chosen}
 
 pub error-sent : (e : ℕ) (xs : List ℕ) → errorAfter e (map sent xs) ≡ e
 unfolding errorAfter
@@ -33,21 +33,11 @@ module _ (s : State) (xs : List ℕ) where
       ap (λ (e : ℕ). settlement (withPage s (withError (s .page) e)) xs) (sym (error-sent (s .page .error) xs))
       ∙ ap (λ (r : List ℕ). settlement (settledOf s (map sent xs)) r) (sym (replies-sent (reportsOn (s .page .flags)) xs))
 
-  -- a code and then data, with reports on and off
-  coded : (k : ℕ) (r : List ℕ) → r ≡ repliesOf (reportsOn (s .page .flags)) (returned k ∷ map sent xs) → settlement (withPage s (withError (s .page) k)) r ≡ settlementOf s (returned k ∷ map sent xs)
-  unfolding errorAfter
-  coded k r e =
-      ap (λ (x : ℕ). settlement (withPage s (withError (s .page) x)) r) (sym (error-sent k xs))
-      ∙ ap (λ (q : List ℕ). settlement (withPage s (withError (s .page) (errorAfter k (map sent xs)))) q) e
-
-  pub coded-on : (k : ℕ) → reportsOn (s .page .flags) ≡ true → settlement (withPage s (withError (s .page) k)) (k ∷ xs) ≡ settlementOf s (returned k ∷ map sent xs)
-  unfolding repliesOf
-  coded-on k t =
-      let on = reportsOn (s .page .flags) in
-      coded k (k ∷ xs) (ap (λ (r : List ℕ). k ∷ r) (sym (replies-sent on xs)) ∙ when on (k ∷ repliesOf on (map sent xs)) (repliesOf on (map sent xs)) t)
-
-  pub coded-off : (k : ℕ) → reportsOn (s .page .flags) ≡ false → settlement (withPage s (withError (s .page) k)) xs ≡ settlementOf s (returned k ∷ map sent xs)
-  unfolding repliesOf
-  coded-off k t =
-      let on = reportsOn (s .page .flags) in
-      coded k xs (sym (replies-sent on xs) ∙ unless on (k ∷ repliesOf on (map sent xs)) (repliesOf on (map sent xs)) t)
+  -- a code and then data, with reports on or off
+  pub coded : (k : ℕ) (on : Bool) → reportsOn (s .page .flags) ≡ on → settlement (withPage s (withError (s .page) k)) (cond on (k ∷ xs) xs) ≡ settlementOf s (returned k ∷ map sent xs)
+  unfolding errorAfter repliesOf
+  coded k on e =
+      let reports = reportsOn (s .page .flags) in
+      ap (λ (x : ℕ). settlement (withPage s (withError (s .page) x)) (cond on (k ∷ xs) xs)) (sym (error-sent k xs))
+      ∙ ap (λ (q : List ℕ). settlement (withPage s (withError (s .page) (errorAfter k (map sent xs)))) q)
+      (chosen reports (k ∷ xs) xs e ∙ ap (λ (r : List ℕ). cond reports (k ∷ r) r) (sym (replies-sent reports xs)))

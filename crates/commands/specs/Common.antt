@@ -1,6 +1,6 @@
 -- The common commands (01, "Registers and common commands"), a clause a command.
 use Prim.Native.Nat.{ℕ, _+_, _*_, _/_, _%_}
-use mathlib.Core.Bool.{Bool, false, cond}
+use mathlib.Core.Bool.{Bool, true, false, cond}
 use mathlib.Core.List.{List, [], _∷_}
 use lib.Dec.{eqb}
 use Rattle.wire.specs.Action.{cs, ss, portB, portC, portD}
@@ -35,7 +35,7 @@ abbrev pub commonTable : List (Entry CommonCommand)
 commonTable =
     0x00 is k.ResetDevice ∷ 0x01 is k.ChooseI2c ∷ 0x02 is k.ChooseSpi ∷ 0x03 is k.ChooseWire
     ∷ 0x04 is k.ReadError ∷ 0x05 is k.SaveToEprom ∷ 0x06 is k.ReadFromEprom
-    ∷ 0x07 is k.EnableReports ∷ 0x08 is k.DisableReports ∷ 0x09 is k.EnableAutoload ∷ 0x0A is k.DisableAutoload
+    ∷ 0x07 is k.SetReports true ∷ 0x08 is k.SetReports false ∷ 0x09 is k.SetAutoload true ∷ 0x0A is k.SetAutoload false
     ∷ 0x0B is k.SetupPort r.Ddrb ∷ 0x0C is k.ReadPort r.Ddrb ∷ 0x0D is k.SetupPort r.Portb ∷ 0x0E is k.ReadPort r.Portb
     ∷ 0x0F is k.SetupPort r.Ddrc ∷ 0x10 is k.ReadPort r.Ddrc ∷ 0x11 is k.SetupPort r.Portc ∷ 0x12 is k.ReadPort r.Portc
     ∷ 0x13 is k.SetupPort r.Ddrd ∷ 0x14 is k.ReadPort r.Ddrd ∷ 0x15 is k.SetupPort r.Portd ∷ 0x16 is k.ReadPort r.Portd
@@ -51,11 +51,11 @@ weightOf Three = 8
 weightOf Four = 16
 weightOf Five = 32
 
-abbrev pub withBit : Bit → ℕ → ℕ
-withBit b x = x % weightOf b + weightOf b + x / (weightOf b * 2) * (weightOf b * 2)
+abbrev pub bitOf : Bool → ℕ
+bitOf on = cond on 1 0
 
-abbrev pub withoutBit : Bit → ℕ → ℕ
-withoutBit b x = x % weightOf b + x / (weightOf b * 2) * (weightOf b * 2)
+abbrev pub withBit : Bit → Bool → ℕ → ℕ
+withBit b on x = x % weightOf b + bitOf on * weightOf b + x / (weightOf b * 2) * (weightOf b * 2)
 
 -- THE REGISTERS
 
@@ -88,6 +88,10 @@ imageOf p =
 abbrev pub withEprom : Shared → List ℕ → Shared
 withEprom h image = record { eprom = image; cycles = h .cycles; version = h .version; serial = h .serial }
 
+-- "07/08 set/clear reports, 09/0A autoload; each returns 00"
+abbrev pub flagged : State → Bit → Bool → Plan
+flagged s b on = returns (withPage s (withFlags (s .page) (withBit b on (s .page .flags)))) 0x00
+
 -- THE CLAUSES
 abbrev pub runCommon : State → CommonCommand → Plan
 runCommon s k.ResetDevice = performs (withPage s (resetPage (s .page))) w.Reinit
@@ -98,11 +102,9 @@ runCommon s k.ChooseWire = performs (withPage s (chosenPage (s .page) 4)) w.Rein
 runCommon s k.ReadError = sends (withPage s (withError (s .page) 0)) (Sends (s .page .error))
 runCommon s k.SaveToEprom = returns (withShared s (withEprom (s .shared) (imageOf (s .page)))) 0x00
 runCommon s k.ReadFromEprom = sends s SendsEprom
-runCommon s k.EnableReports = returns (withPage s (withFlags (s .page) (withBit Three (s .page .flags)))) 0x00
 -- 00 is returned for 08 too (H), and not sent, since reports are off after it
-runCommon s k.DisableReports = returns (withPage s (withFlags (s .page) (withoutBit Three (s .page .flags)))) 0x00
-runCommon s k.EnableAutoload = returns (withPage s (withFlags (s .page) (withBit Four (s .page .flags)))) 0x00
-runCommon s k.DisableAutoload = returns (withPage s (withFlags (s .page) (withoutBit Four (s .page .flags)))) 0x00
+runCommon s (k.SetReports on) = flagged s Three on
+runCommon s (k.SetAutoload on) = flagged s Four on
 runCommon s (k.SetupPort x) = awaits s (v.One (o.ToPort x))
 runCommon s (k.ReadPort x) = sends s (Sends (registerOf (s .page) x))
 runCommon s (k.ReadPins line) = plan s (w.SamplePort line) SendsSample
@@ -111,8 +113,9 @@ runCommon s k.ReadFlags = sends s (Sends (s .page .flags))
 runCommon s k.ReadVersion = sends s (Sends (s .shared .version))
 -- 1C: "PD4 latched 1, wait IOG cycles, PD3 latched 1"
 runCommon s k.SetIog =
-    performs (withPage s (withRegister (s .page) r.Portd (withBit Three (withBit Four (s .page .portd)))))
-    (w.Strobe (withBit Four (s .page .portd)) (s .shared .cycles) (withBit Three (withBit Four (s .page .portd))))
+    let first = withBit Four true (s .page .portd) in
+    let last = withBit Three true first in
+    performs (withPage s (withRegister (s .page) r.Portd last)) (w.Strobe first (s .shared .cycles) last)
 runCommon s k.DoExtended = awaits s v.Extended
 -- four bytes, low first (H)
 runCommon s k.ReadSerial = sends s SendsSerial

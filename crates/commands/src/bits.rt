@@ -1,24 +1,24 @@
 // A bit of a register set or cleared, the others as they were.
 ghost use mathlib.Core.Path.{_≡_};
-ghost use Rattle.commands.specs.Common.{withBit, withoutBit};
+ghost use Prim.Native.Nat.{_≤_};
+ghost use Rattle.commands.specs.Common.{bitOf, withBit};
 use crate::Bit;
 
-pub(crate) fn set_bit(bit: Bit, x: u8) -> u8
-    ensures { λ r. ⌜ r ≡ withBit bit x ⌝ }
+// The bound is what keeps the sum below in a byte.
+fn bit_of(on: bool) -> u8
+    ensures { λ r. ⌜ (r ≡ bitOf on) × (r ≤ 1) ⌝ }
 {
-    match bit {
-        Bit::Three => x % 8 + 8 + x / 16 * 16,
-        Bit::Four => x % 16 + 16 + x / 32 * 32,
-        Bit::Five => x % 32 + 32 + x / 64 * 64,
-    }
+    if on { 1 } else { 0 }
 }
 
-pub(crate) fn clear_bit(bit: Bit, x: u8) -> u8
-    ensures { λ r. ⌜ r ≡ withoutBit bit x ⌝ }
+// A bit set (on) or cleared.
+pub(crate) fn with_bit(bit: Bit, on: bool, x: u8) -> u8
+    ensures { λ r. ⌜ r ≡ withBit bit on x ⌝ }
 {
+    let b = bit_of(on);
     match bit {
-        Bit::Three => x % 8 + x / 16 * 16,
-        Bit::Four => x % 16 + x / 32 * 32,
-        Bit::Five => x % 32 + x / 64 * 64,
+        Bit::Three => x % 8 + b * 8 + x / 16 * 16,
+        Bit::Four => x % 16 + b * 16 + x / 32 * 32,
+        Bit::Five => x % 32 + b * 32 + x / 64 * 64,
     }
 }

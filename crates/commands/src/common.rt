@@ -1,15 +1,14 @@
 // The common commands.
 ghost use mathlib.Core.Path.{_≡_};
 ghost use Prim.Native.Nat.{_<_};
-ghost use Rattle.registers.specs.Registers.{withFlags, withPage};
-ghost use Rattle.commands.specs.Plans.{returns, performs};
-ghost use Rattle.commands.specs.Common.{commonOf, withBit, withoutBit, chosenPage, imageTail, imageMark, imageOf, runCommon};
+ghost use Rattle.registers.specs.Registers.{withPage};
+ghost use Rattle.commands.specs.Plans.{performs};
+ghost use Rattle.commands.specs.Common.{commonOf, flagged, chosenPage, imageTail, imageMark, imageOf, runCommon};
 use crate::Answer;
 use crate::Bit;
 use crate::CommonCommand;
 use crate::Plan;
-use crate::bits::clear_bit;
-use crate::bits::set_bit;
+use crate::bits::with_bit;
 use crate::plans::awaiting;
 use crate::plans::make;
 use crate::plans::performing;
@@ -34,10 +33,10 @@ pub(crate) fn decode(b: u8) -> CommonCommand
         0x04 => CommonCommand::ReadError,
         0x05 => CommonCommand::SaveToEprom,
         0x06 => CommonCommand::ReadFromEprom,
-        0x07 => CommonCommand::EnableReports,
-        0x08 => CommonCommand::DisableReports,
-        0x09 => CommonCommand::EnableAutoload,
-        0x0A => CommonCommand::DisableAutoload,
+        0x07 => CommonCommand::SetReports(true),
+        0x08 => CommonCommand::SetReports(false),
+        0x09 => CommonCommand::SetAutoload(true),
+        0x0A => CommonCommand::SetAutoload(false),
         0x0B => CommonCommand::SetupPort(PortRegister::Ddrb),
         0x0C => CommonCommand::ReadPort(PortRegister::Ddrb),
         0x0D => CommonCommand::SetupPort(PortRegister::Portb),
@@ -169,20 +168,11 @@ fn save(mut s: State) -> Plan
     }
 }
 
-// 07, 09: a flag set, 00 returned.
-fn enable(mut s: State, bit: Bit) -> Plan
-    ensures { λ r. ⌜ r ≡ returns (withPage s (withFlags (s .page) (withBit bit (s .page .flags)))) 0 ⌝ }
+// 07 to 0A: a flag set or cleared, 00 returned.
+fn set_flag(mut s: State, bit: Bit, on: bool) -> Plan
+    ensures { λ r. ⌜ r ≡ flagged s bit on ⌝ }
 {
-    let f = set_bit(bit, s.page.flags);
-    s.page.flags = f;
-    returning(s, 0x00)
-}
-
-// 08, 0A: a flag cleared, 00 returned.
-fn disable(mut s: State, bit: Bit) -> Plan
-    ensures { λ r. ⌜ r ≡ returns (withPage s (withFlags (s .page) (withoutBit bit (s .page .flags)))) 0 ⌝ }
-{
-    let f = clear_bit(bit, s.page.flags);
+    let f = with_bit(bit, on, s.page.flags);
     s.page.flags = f;
     returning(s, 0x00)
 }
@@ -191,8 +181,8 @@ fn disable(mut s: State, bit: Bit) -> Plan
 fn set_iog(mut s: State) -> Plan
     ensures { λ r. ⌜ r ≡ runCommon s CommonCommand.SetIog ⌝ }
 {
-    let first = set_bit(Bit::Four, s.page.portd);
-    let last = set_bit(Bit::Three, first);
+    let first = with_bit(Bit::Four, true, s.page.portd);
+    let last = with_bit(Bit::Three, true, first);
     s.page.portd = last;
     let cycles = s.shared.cycles;
     let wave = Waveform::Strobe {
@@ -215,10 +205,8 @@ pub(crate) fn run(s: State, c: CommonCommand) -> Plan
         CommonCommand::ReadError => read_error(s),
         CommonCommand::SaveToEprom => save(s),
         CommonCommand::ReadFromEprom => sending(s, Answer::SendsEprom),
-        CommonCommand::EnableReports => enable(s, Bit::Three),
-        CommonCommand::DisableReports => disable(s, Bit::Three),
-        CommonCommand::EnableAutoload => enable(s, Bit::Four),
-        CommonCommand::DisableAutoload => disable(s, Bit::Four),
+        CommonCommand::SetReports(on) => set_flag(s, Bit::Three, on),
+        CommonCommand::SetAutoload(on) => set_flag(s, Bit::Four, on),
         CommonCommand::SetupPort(r) => awaiting(s, Wait::One(Operand::ToPort(r))),
         CommonCommand::ReadPort(r) => {
             let page = s.page;

@@ -1,12 +1,11 @@
 // The extended commands, after 1D.
 ghost use mathlib.Core.Path.{_≡_};
-ghost use Rattle.commands.specs.Extended.{extendedOf, pulses, changes, runExtended};
+ghost use Rattle.commands.specs.Extended.{extendedOf, runExtended};
 use crate::Answer;
 use crate::Bit;
 use crate::ExtendedCommand;
 use crate::Plan;
-use crate::bits::clear_bit;
-use crate::bits::set_bit;
+use crate::bits::with_bit;
 use crate::plans::awaiting;
 use crate::plans::returning;
 use crate::plans::storing;
@@ -24,40 +23,58 @@ pub(crate) fn decode(b: u8) -> ExtendedCommand
     ensures { λ r. ⌜ r ≡ extendedOf b ⌝ }
 {
     match b {
-        0x01 => ExtendedCommand::PulseUp(PortRegister::Portc, Bit::Five),
-        0x02 => ExtendedCommand::PulseUp(PortRegister::Portd, Bit::Three),
-        0x03 => ExtendedCommand::PulseDown {
-            latch: PortRegister::Portd,
-            bit: Bit::Four,
+        0x01 => ExtendedCommand::Pulse {
+            latch: PortRegister::Portc,
+            bit: Bit::Five,
+            level: true,
             unit: wire::VERB_WAIT_MICROSECONDS,
             wait: 1,
         },
-        0x08 => ExtendedCommand::PulseDown {
+        0x02 => ExtendedCommand::Pulse {
+            latch: PortRegister::Portd,
+            bit: Bit::Three,
+            level: true,
+            unit: wire::VERB_WAIT_MICROSECONDS,
+            wait: 1,
+        },
+        0x03 => ExtendedCommand::Pulse {
             latch: PortRegister::Portd,
             bit: Bit::Four,
+            level: false,
+            unit: wire::VERB_WAIT_MICROSECONDS,
+            wait: 1,
+        },
+        0x08 => ExtendedCommand::Pulse {
+            latch: PortRegister::Portd,
+            bit: Bit::Four,
+            level: false,
             unit: wire::VERB_WAIT_MILLISECONDS,
             wait: 25,
         },
-        0x09 => ExtendedCommand::PulseDown {
+        0x09 => ExtendedCommand::Pulse {
             latch: PortRegister::Portd,
             bit: Bit::Four,
+            level: false,
             unit: wire::VERB_WAIT_MILLISECONDS,
             wait: 2,
         },
-        0x0A => ExtendedCommand::SetBit(PortRegister::Portd, Bit::Five),
-        0x0B => ExtendedCommand::ClearBit(PortRegister::Portd, Bit::Five),
-        0x0C => ExtendedCommand::SetBit(PortRegister::Ddrd, Bit::Five),
-        0x0D => ExtendedCommand::ClearBit(PortRegister::Ddrd, Bit::Five),
+        0x0A => ExtendedCommand::SetBit(PortRegister::Portd, Bit::Five, true),
+        0x0B => ExtendedCommand::SetBit(PortRegister::Portd, Bit::Five, false),
+        0x0C => ExtendedCommand::SetBit(PortRegister::Ddrd, Bit::Five, true),
+        0x0D => ExtendedCommand::SetBit(PortRegister::Ddrd, Bit::Five, false),
         0x0E => ExtendedCommand::LoadCycles,
         0x0F => ExtendedCommand::ReadCycles,
         _ => ExtendedCommand::NoExtended,
     }
 }
 
-// A latch with one level and then, after a wait, with another.
-fn pulse(s: State, latch: PortRegister, first: u8, unit: u8, wait: u8, last: u8) -> Plan
-    ensures { λ r. ⌜ r ≡ pulses s latch first unit wait last ⌝ }
+// 01, 02, 03, 08, 09: a bit of a latch to a level, a wait, and back.
+fn pulse(s: State, latch: PortRegister, bit: Bit, level: bool, unit: u8, wait: u8) -> Plan
+    ensures { λ r. ⌜ r ≡ runExtended s (ExtendedCommand.Pulse latch bit level unit wait) ⌝ }
 {
+    let page = s.page;
+    let first = with_bit(bit, level, port_register(page, latch));
+    let last = with_bit(bit, !level, first);
     let line = port_line(latch);
     let wave = Waveform::PortPulse {
         line,
@@ -69,38 +86,16 @@ fn pulse(s: State, latch: PortRegister, first: u8, unit: u8, wait: u8, last: u8)
     storing(s, latch, last, wave, Answer::Returns(0x00))
 }
 
-// 01, 02: a bit up, 1 µs, down.
-fn pulse_up(s: State, latch: PortRegister, bit: Bit) -> Plan
-    ensures { λ r. ⌜ r ≡ runExtended s (ExtendedCommand.PulseUp latch bit) ⌝ }
+// 0A to 0D: a bit of a port register set or cleared, with one action.
+fn set_bit(s: State, r: PortRegister, bit: Bit, on: bool) -> Plan
+    ensures { λ p. ⌜ p ≡ runExtended s (ExtendedCommand.SetBit r bit on) ⌝ }
 {
     let page = s.page;
-    let first = set_bit(bit, port_register(page, latch));
-    let last = clear_bit(bit, first);
-    pulse(s, latch, first, wire::VERB_WAIT_MICROSECONDS, 1, last)
-}
-
-// 03, 08, 09: a bit down, a wait, up.
-fn pulse_down(s: State, latch: PortRegister, bit: Bit, unit: u8, wait: u8) -> Plan
-    ensures { λ r. ⌜ r ≡ runExtended s (ExtendedCommand.PulseDown latch bit unit wait) ⌝ }
-{
-    let page = s.page;
-    let first = clear_bit(bit, port_register(page, latch));
-    let last = set_bit(bit, first);
-    pulse(s, latch, first, unit, wait, last)
-}
-
-// A port register written, with its one action.
-fn change(s: State, r: PortRegister, x: u8) -> Plan
-    ensures { λ p. ⌜ p ≡ changes s r x ⌝ }
-{
+    let value = with_bit(bit, on, port_register(page, r));
     let verb = port_verb(r);
     let line = port_line(r);
-    let wave = Waveform::Port {
-        verb,
-        line,
-        value: x,
-    };
-    storing(s, r, x, wave, Answer::Returns(0x00))
+    let wave = Waveform::Port { verb, line, value };
+    storing(s, r, value, wave, Answer::Returns(0x00))
 }
 
 // 0F: the IOG count sent, and nothing waited for.
@@ -125,17 +120,15 @@ fn read_cycles(s: State) -> Plan
 pub(crate) fn run(s: State, c: ExtendedCommand) -> Plan
     ensures { λ r. ⌜ r ≡ runExtended s c ⌝ }
 {
-    let page = s.page;
     match c {
-        ExtendedCommand::PulseUp(r, bit) => pulse_up(s, r, bit),
-        ExtendedCommand::PulseDown {
+        ExtendedCommand::Pulse {
             latch,
             bit,
+            level,
             unit,
             wait,
-        } => pulse_down(s, latch, bit, unit, wait),
-        ExtendedCommand::SetBit(r, bit) => change(s, r, set_bit(bit, port_register(page, r))),
-        ExtendedCommand::ClearBit(r, bit) => change(s, r, clear_bit(bit, port_register(page, r))),
+        } => pulse(s, latch, bit, level, unit, wait),
+        ExtendedCommand::SetBit(r, bit, on) => set_bit(s, r, bit, on),
         ExtendedCommand::LoadCycles => awaiting(s, Wait::One(Operand::ToCycles)),
         ExtendedCommand::ReadCycles => read_cycles(s),
         ExtendedCommand::NoExtended => returning(s, 0x80),

@@ -73,10 +73,8 @@ pub enum CommonCommand {
     ReadError,
     SaveToEprom,
     ReadFromEprom,
-    EnableReports,
-    DisableReports,
-    EnableAutoload,
-    DisableAutoload,
+    SetReports(bool),
+    SetAutoload(bool),
     SetupPort(PortRegister),
     ReadPort(PortRegister),
     ReadPins(u8),
@@ -95,17 +93,16 @@ pub enum Bit {
     Five,
 }
 
-// The commands after 1D; a pulse is on a bit of a port's latch.
+// The commands after 1D; a pulse takes a bit of a port's latch to a level and, after a wait, back.
 pub enum ExtendedCommand {
-    PulseUp(PortRegister, Bit),
-    PulseDown {
+    Pulse {
         latch: PortRegister,
         bit: Bit,
+        level: bool,
         unit: u8,
         wait: u8,
     },
-    SetBit(PortRegister, Bit),
-    ClearBit(PortRegister, Bit),
+    SetBit(PortRegister, Bit, bool),
     LoadCycles,
     ReadCycles,
     NoExtended,

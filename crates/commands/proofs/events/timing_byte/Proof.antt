@@ -2,7 +2,7 @@
 use borrow.Author.Needs.{needs}
 use mathlib.Core.Path.{_∙_}
 use borrow.Author.Tests.{eq-eqb, ne-eqb}
-use Rattle.commands.proofs.Choices.{when, unless}
+use Rattle.commands.proofs.Choices.{chosen}
 use Rattle.commands.proofs.events.timing_byte.Statement.{statement}
 use Rattle.commands.proofs.events.timing_byte.Tie as tie
 
@@ -13,7 +13,7 @@ timing-byte-spec =
     (λ c. search needs)
     (λ c. search needs)
     (λ c κs. search needs)
-    (λ c. c .settling .ensures ∙ when _ _ _ (eq-eqb _ _ (c .before .before .if1 .taken)))
+    (λ c. c .settling .ensures ∙ chosen _ _ _ (eq-eqb _ _ (c .before .before .if1 .taken)))
     (λ c. search needs)
     (λ c κs. search needs)
-    (λ c. c .hold .ensures ∙ unless _ _ _ (ne-eqb _ _ (c .before .if1 .left))))
+    (λ c. c .hold .ensures ∙ chosen _ _ _ (ne-eqb _ _ (c .before .if1 .left))))

@@ -9,4 +9,9 @@ pulse-spec =
     (tie.spec
     (λ c κs. search needs)
     (λ c κs. search needs)
-    (λ c. rw (← c .before .port-line .ensures) (c .storing .ensures)))
+    (λ c κs. search needs)
+    (λ c κs. search needs)
+    (λ c κs. search needs)
+    (λ c.
+    let p = c .before .before .before in
+    rw (← p .before .port-register .ensures, ← p .with-bit .ensures, ← c .before .before .with-bit2 .ensures, ← c .before .port-line .ensures) (c .storing .ensures)))

@@ -3,7 +3,7 @@ use borrow.Author.Needs.{needs}
 use mathlib.Core.Path.{_∙_}
 use borrow.Author.Tests.{eq-eqb, ne-eqb}
 use Rattle.registers.proofs.InRange.{most-left}
-use Rattle.commands.proofs.Choices.{when, unless}
+use Rattle.commands.proofs.Choices.{chosen}
 use Rattle.commands.proofs.packets.packet_byte.Statement.{statement}
 use Rattle.commands.proofs.packets.packet_byte.Tie as tie
 
@@ -16,7 +16,7 @@ packet-byte-spec =
     (λ c. search needs)
     (λ c. search needs)
     (λ c κs. search needs)
-    (λ c. rw (← most-left (c .before .before .before .before .args .s .page .size)) (c .load .ensures ∙ when _ _ _ (eq-eqb _ _ (c .before .if1 .taken))))
+    (λ c. rw (← most-left (c .before .before .before .before .args .s .page .size)) (c .load .ensures ∙ chosen _ _ _ (eq-eqb _ _ (c .before .if1 .taken))))
     (λ c. search needs)
     (λ c κs. search needs)
-    (λ c. rw (← most-left (c .before .before .before .before .args .s .page .size)) (c .hold .ensures ∙ unless _ _ _ (ne-eqb _ _ (c .before .if1 .left)))))
+    (λ c. rw (← most-left (c .before .before .before .before .args .s .page .size)) (c .hold .ensures ∙ chosen _ _ _ (ne-eqb _ _ (c .before .if1 .left)))))

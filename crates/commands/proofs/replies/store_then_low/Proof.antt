@@ -1,8 +1,9 @@
 -- By whether reports are on; data sent leaves ERROR.
 use borrow.Author.Tests.{eq-eqb, ne-eqb}
+use mathlib.Core.Bool.{true, false}
 use Rattle.packet.specs.Packet.{lowBytes}
 use Rattle.registers.specs.Registers.{bitsIn}
-use Rattle.commands.proofs.Sent.{coded-on, coded-off}
+use Rattle.commands.proofs.Sent.{coded}
 use Rattle.commands.proofs.replies.store_then_low.Statement.{statement}
 use Rattle.commands.proofs.replies.store_then_low.Tie as tie
 
@@ -10,5 +11,5 @@ pub store-then-low-spec : {M : Type 1} → statement M
 store-then-low-spec =
     tie.close
     (tie.spec
-    (λ c. coded-on (c .before .before .before .args .s) (lowBytes (bitsIn (c .before .before .before .args .s .page)) (c .before .before .before .args .s .page .packet)) 0x00 (eq-eqb _ _ (c .if1 .taken)))
-    (λ c. coded-off (c .before .before .before .args .s) (lowBytes (bitsIn (c .before .before .before .args .s .page)) (c .before .before .before .args .s .page .packet)) 0x00 (ne-eqb _ _ (c .if1 .left))))
+    (λ c. coded (c .before .before .before .args .s) (lowBytes (bitsIn (c .before .before .before .args .s .page)) (c .before .before .before .args .s .page .packet)) 0x00 true (eq-eqb _ _ (c .if1 .taken)))
+    (λ c. coded (c .before .before .before .args .s) (lowBytes (bitsIn (c .before .before .before .args .s .page)) (c .before .before .before .args .s .page .packet)) 0x00 false (ne-eqb _ _ (c .if1 .left))))

@@ -2,7 +2,7 @@
 use borrow.Author.Needs.{needs}
 use Rattle.registers.proofs.InRange.{most-left}
 use mathlib.Core.Path.{_∙_}
-use Rattle.commands.proofs.Choices.{when, unless}
+use Rattle.commands.proofs.Choices.{chosen}
 use Rattle.commands.proofs.spi.load_packet.Statement.{statement}
 use Rattle.commands.proofs.spi.load_packet.Tie as tie
 
@@ -12,6 +12,6 @@ load-packet-spec =
     (tie.spec
     (λ c. search needs)
     (λ c κs. search needs)
-    (λ c. c .awaiting .ensures ∙ rw (← most-left (c .before .before .before .args .s .page .size)) (when _ _ _ (c .before .if1 .taken)))
+    (λ c. c .awaiting .ensures ∙ rw (← most-left (c .before .before .before .args .s .page .size)) (chosen _ _ _ (c .before .if1 .taken)))
     (λ c κs. search needs)
-    (λ c. c .returning .ensures ∙ unless _ _ _ (c .before .if1 .left)))
+    (λ c. c .returning .ensures ∙ chosen _ _ _ (c .before .if1 .left)))

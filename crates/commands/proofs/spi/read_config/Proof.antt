@@ -1,7 +1,7 @@
 -- By whether SPI is configured.
 use borrow.Author.Needs.{needs}
 use mathlib.Core.Path.{_∙_}
-use Rattle.commands.proofs.Choices.{when, unless}
+use Rattle.commands.proofs.Choices.{chosen}
 use Rattle.commands.proofs.spi.read_config.Statement.{statement}
 use Rattle.commands.proofs.spi.read_config.Tie as tie
 
@@ -10,6 +10,6 @@ read-config-spec =
     tie.close
     (tie.spec
     (λ c κs. search needs)
-    (λ c. c .sending .ensures ∙ when _ _ _ (c .before .if1 .taken))
+    (λ c. c .sending .ensures ∙ chosen _ _ _ (c .before .if1 .taken))
     (λ c κs. search needs)
-    (λ c. c .sending2 .ensures ∙ unless _ _ _ (c .before .if1 .left)))
+    (λ c. c .sending2 .ensures ∙ chosen _ _ _ (c .before .if1 .left)))
