@@ -2,6 +2,7 @@
 use mathlib.Core.Path.{_≡_, refl, sym, ap, _∙_}
 use mathlib.Core.List.{List, [], _∷_, _++_, append-assoc, reverse, reverse-cons}
 use Prim.Native.Nat.{ℕ, zero, suc, _+_, _-_, _*_, _/_, _%_, _<_}
+use native.Mathlib.Nat.{div-div-eq-div-mul}
 use native.Mathlib.Omega.{arith}
 use mir.Val.{Val}
 use mir.Syntax.{w8}
@@ -64,33 +65,19 @@ length-bits (b ∷ l) = omega (arith, length-bits l)
 
 -- FROM A BYTE TO ITS BITS AND BACK
 
-n1 : (x : ℕ) → x < 256 → 0 * 2 + x / 128 % 2 ≡ x / 128
-n1 x h = omega arith
+first-half : (x : ℕ) → x < 256 → 0 * 2 + x / 128 % 2 ≡ x / 128
+first-half x h = omega arith
 
-n2 : (x : ℕ) → x / 128 * 2 + x / 64 % 2 ≡ x / 64
-n2 x = omega arith
+half : (x : ℕ) → x / 2 * 2 + x % 2 ≡ x
+half x = omega arith
 
-n3 : (x : ℕ) → x / 64 * 2 + x / 32 % 2 ≡ x / 32
-n3 x = omega arith
-
-n4 : (x : ℕ) → x / 32 * 2 + x / 16 % 2 ≡ x / 16
-n4 x = omega arith
-
-n5 : (x : ℕ) → x / 16 * 2 + x / 8 % 2 ≡ x / 8
-n5 x = omega arith
-
-n6 : (x : ℕ) → x / 8 * 2 + x / 4 % 2 ≡ x / 4
-n6 x = omega arith
-
-n7 : (x : ℕ) → x / 4 * 2 + x / 2 % 2 ≡ x / 2
-n7 x = omega arith
-
-n8 : (x : ℕ) → x / 2 * 2 + x % 2 ≡ x
-n8 x = omega arith
+-- the quotient by twice a weight and the bit of that weight give the quotient by the weight
+halves : (x w : ℕ) → x / (w * 2) * 2 + x / w % 2 ≡ x / w
+halves x w = ap (λ (q : ℕ). q * 2 + x / w % 2) (sym (div-div-eq-div-mul x w 2)) ∙ half (x / w)
 
 number-bits : (x : ℕ) → x < 256 → number 0 (byteBits x) ≡ x
 unfolding byteBits number
-number-bits x h = rw (n1 x h, n2 x, n3 x, n4 x, n5 x, n6 x, n7 x, n8 x)
+number-bits x h = rw (first-half x h, halves x 64, halves x 32, halves x 16, halves x 8, halves x 4, halves x 2) (half x)
 
 -- a value of the type [u8; n] is the register of its own bits
 register-each : (xs : List ℕ) (us : List Val) → shadow (each ℕ (UInt w8 .own) xs us) → register (length xs) (bits xs) ≡ xs
