@@ -1,6 +1,6 @@
 -- The bit at a place, and the order on the wire, at any width. Assumes nothing.
 use mathlib.Core.Path.{_≡_, refl, sym, ap, _∙_}
-use mathlib.Core.Bool.{Bool, true, false}
+use mathlib.Core.Bool.{Bool, true, false, cond}
 use mathlib.Core.List.{List, [], _∷_, _++_, reverse, reverse-cons}
 use Prim.Native.Nat.{ℕ, zero, suc, _+_, _-_, _*_, _/_, _%_, _^_, _≤_, _<_}
 use native.Mathlib.Nat.{not-suc-le-zero}
@@ -62,13 +62,11 @@ unfolding order
 length-order true bs = refl
 length-order false bs = length-reverse bs
 
-pub order-high : (bs : List ℕ) (i : ℕ) → getD bs i 0 ≡ getD (order true bs) i 0
+-- a step's place: the same, or as far from behind
+pub order-at : (high : Bool) (w : ℕ) (bs : List ℕ) (i : ℕ) → length bs ≡ w → i < w → getD bs (cond high i (w - 1 - i)) 0 ≡ getD (order high bs) i 0
 unfolding order
-order-high bs i = refl
-
-pub order-low : (w : ℕ) (bs : List ℕ) (i : ℕ) → length bs ≡ w → i < w → getD bs (w - 1 - i) 0 ≡ getD (order false bs) i 0
-unfolding order
-order-low w bs i e h = rw (← e) (sym (getD-reverse bs i (omega arith)))
+order-at true w bs i e h = refl
+order-at false w bs i e h = rw (← e) (sym (getD-reverse bs i (omega arith)))
 
 -- past the register's bits there is none
 pub order-past : (high : Bool) (r : List ℕ) (i : ℕ) → 8 * length r ≤ i → 0 ≡ getD (order high (bits r)) i 0

@@ -1,7 +1,7 @@
 // The packet register: an array of bytes by value, REG0 highest. In 01's words n is N, the size in bits, and high is bit 2
 // of CONFIG_SPI.
 ghost use mathlib.Core.Path.{_≡_};
-ghost use mathlib.Core.Bool.{true};
+ghost use mathlib.Core.Bool.{true, cond};
 ghost use Prim.Native.Nat.{_+_, _-_, _<_, _≤_, min};
 ghost use mathlib.Core.List.{[], _∷_, _++_};
 ghost use lib.ListN.{drop, getD, length};
@@ -147,6 +147,17 @@ pub fn load_packet(held: &[u8], n: u8, high: bool) -> Register
     align(low, n, high)
 }
 
+// The place of a step among n on the wire, counted from the highest. The caller shows that there is such a step.
+pub fn place_of(step: u8, n: u8, high: bool) -> u8
+    requires { ⌜ step < n ⌝ }
+    ensures { λ p. ⌜ (p ≡ cond high step (n - 1 - step)) × (p < n) ⌝ }
+{
+    if high {
+        return step;
+    }
+    n - 1 - step
+}
+
 // The bit that is sent at a step counted from 0; 0 past the register's bits.
 pub fn bit_to_send(r: Register, step: u8, high: bool) -> u8
     ensures { λ b. ⌜ (b ≡ sentAt high r step) × (b < 2) ⌝ }
@@ -154,10 +165,8 @@ pub fn bit_to_send(r: Register, step: u8, high: bool) -> u8
     if WIDTH <= step {
         return 0;
     }
-    if high {
-        return bit_at(r, step);
-    }
-    bit_at(r, WIDTH - 1 - step)
+    let place = place_of(step, WIDTH, high);
+    bit_at(r, place)
 }
 
 // How many low bytes of the register hold n bits.

@@ -12,10 +12,8 @@ fn level_in(samples: &[u8], from: usize, n: u8, i: u8, high: bool) -> u8
     requires { ⌜ (i < n) × (from ≤ length (now samples)) ⌝ }
     ensures { λ b. ⌜ (b ≡ getD (order high (levels (now (samples .entry)) from n)) i 0) × (b < 2) ⌝ }
 {
-    if high {
-        return wire::level_at(samples, from + i as usize);
-    }
-    wire::level_at(samples, from + (n - 1 - i) as usize)
+    let place = packet::place_of(i, n, high);
+    wire::level_at(samples, from + place as usize)
 }
 
 // The byte of eight levels, the first of them highest or lowest.

@@ -1,0 +1,14 @@
+-- By the order.
+use borrow.Author.Needs.{needs}
+use native.Mathlib.Omega.{arith}
+use Rattle.packet.proofs.place_of.Statement.{statement}
+use Rattle.packet.proofs.place_of.Tie as tie
+
+pub place-of-spec : {M : Type 1} → statement M
+place-of-spec =
+    tie.close
+    (tie.spec
+    (λ c. search needs)
+    (λ c. search needs)
+    (λ c. search needs)
+    (λ c. (rw (c .if1 .left), omega (arith, c .before .pre))))
