@@ -2,6 +2,7 @@
 use Prim.Native.Nat.{ℕ, _+_, _/_, _%_, _<_, _≤_}
 use mathlib.Core.Path.{_≡_, refl, subst}
 use mathlib.Core.Bool.{Bool, true, false, _&&_, false≢true}
+use mathlib.Core.Logic.{_↔_}
 use native.Mathlib.Omega.{arith}
 use borrow.Author.Tests.{lt-ltb, le-leb, eq-eqb, ltb-true, leb-true, eqb-true}
 use lib.Dec.{eqb, leb, ltb}
@@ -59,29 +60,19 @@ module _ (p : Page) where
 
 -- A WAIT
 
-operand-facts : (o : Operand) (flags : ℕ) → operandFits o flags ≡ true → OperandInRange o flags
-operand-facts (ToPort r) flags e = tt
-operand-facts ToCycles flags e = tt
-operand-facts ToI2c flags e = e
-operand-facts ToConfig flags e = e
-operand-facts ToSize flags e = e
-operand-facts ToWire flags e = e
-operand-facts ToWireBit flags e = e
-operand-facts ToWireStrong flags e = e
-
-operand-tested : (o : Operand) (flags : ℕ) → OperandInRange o flags → operandFits o flags ≡ true
-operand-tested (ToPort r) flags e = refl
-operand-tested ToCycles flags e = refl
-operand-tested ToI2c flags e = e
-operand-tested ToConfig flags e = e
-operand-tested ToSize flags e = e
-operand-tested ToWire flags e = e
-operand-tested ToWireBit flags e = e
-operand-tested ToWireStrong flags e = e
+operand-test : (o : Operand) (flags : ℕ) → (operandFits o flags ≡ true) ↔ OperandInRange o flags
+operand-test (ToPort r) flags = (λ e. tt, λ r. refl)
+operand-test ToCycles flags = (λ e. tt, λ r. refl)
+operand-test ToI2c flags = (λ e. e, λ r. r)
+operand-test ToConfig flags = (λ e. e, λ r. r)
+operand-test ToSize flags = (λ e. e, λ r. r)
+operand-test ToWire flags = (λ e. e, λ r. r)
+operand-test ToWireBit flags = (λ e. e, λ r. r)
+operand-test ToWireStrong flags = (λ e. e, λ r. r)
 
 wait-facts : (w : Wait) (flags : ℕ) (configured : Bool) (n : ℕ) → waitFits w flags configured n ≡ true → WaitInRange w flags configured n
 wait-facts Nothing flags configured n e = tt
-wait-facts (One o) flags configured n e = operand-facts o flags e
+wait-facts (One o) flags configured n e = operand-test o flags .0 e
 wait-facts Extended flags configured n e = tt
 wait-facts (Packet left exchange) flags configured n e =
     let a = spiSelected flags in
@@ -100,7 +91,7 @@ wait-facts (Timings left) flags configured n e =
 
 wait-tested : (w : Wait) (flags : ℕ) (configured : Bool) (n : ℕ) → WaitInRange w flags configured n → waitFits w flags configured n ≡ true
 wait-tested Nothing flags configured n r = refl
-wait-tested (One o) flags configured n r = operand-tested o flags r
+wait-tested (One o) flags configured n r = operand-test o flags .1 r
 wait-tested Extended flags configured n r = refl
 wait-tested (Packet left exchange) flags configured n r = both (both (both (r .spi-selected) (r .spi-configured)) (le-leb _ _ (r .one-or-more))) (le-leb _ _ (r .packet-or-less))
 wait-tested (Timings left) flags configured n r = both (both (r .wire-selected) (le-leb _ _ (r .one-or-more))) (le-leb _ _ (r .nine-or-less))
