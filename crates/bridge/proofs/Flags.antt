@@ -1,6 +1,6 @@
 -- What the flags say of the interface. Assumes nothing.
-use Prim.Native.Nat.{ℕ, _+_, _*_, _/_, _%_, _≤_}
-use mathlib.Core.Path.{_≡_, refl, sym, _∙_, ap}
+use Prim.Native.Nat.{ℕ, _+_, _/_, _%_, _≤_}
+use mathlib.Core.Path.{_≡_, refl}
 use mathlib.Core.Bool.{Bool, true, false, cond}
 use native.Mathlib.Omega.{arith}
 use borrow.Author.Tests.{eqb-true}
@@ -10,6 +10,7 @@ use Rattle.grammar.specs.declared.Interface.{Interface}
 use Rattle.grammar.specs.declared.Interface.the-variants.{NoInterface, I2C, SPI, OneWire}
 use Rattle.registers.specs.Registers.{i2cSelected, spiSelected, wireSelected}
 use Rattle.registers.specs.Ranges.{selectedCount}
+use Rattle.registers.proofs.Flags.{same-selected}
 use Rattle.bridge.specs.Views.{interfaceOf}
 
 -- THE THREE LOW BITS say it, so a command that leaves them leaves the interface
@@ -17,21 +18,8 @@ use Rattle.bridge.specs.Views.{interfaceOf}
 abbrev choose : Bool → Bool → Bool → Interface
 choose a b c = cond a I2C (cond b SPI (cond c OneWire NoInterface))
 
-same-bit : (x d n : ℕ) → x ≡ d * 2 + n → x % 2 ≡ n % 2
-same-bit x d n h = omega arith
-
-low-bits : (d n : ℕ) → interfaceOf (d * 8 + n) ≡ interfaceOf n
-low-bits d n =
-    let p = same-bit (d * 8 + n) (d * 4) n (omega arith) in
-    let q = same-bit ((d * 8 + n) / 2) (d * 2) (n / 2) (omega arith) in
-    let r = same-bit ((d * 8 + n) / 4) d (n / 4) (omega arith) in
-    λ i. choose (eqb (p i) 1) (eqb (q i) 1) (eqb (r i) 1)
-
 pub same-interface : (f g : ℕ) → f % 8 ≡ g % 8 → interfaceOf f ≡ interfaceOf g
-same-interface f g h =
-    let p : f ≡ f / 8 * 8 + f % 8 = omega arith in
-    let q : g / 8 * 8 + f % 8 ≡ g = omega arith in
-    ap interfaceOf p ∙ low-bits (f / 8) (f % 8) ∙ sym (low-bits (g / 8) (f % 8)) ∙ ap interfaceOf q
+same-interface f g h = let t = same-selected f g h in λ i. choose (eqb (t .i2c i) 1) (eqb (t .spi i) 1) (eqb (t .wire i) 1)
 
 -- A FLAG IS SET exactly if its interface is the one selected
 pub record OneSelected (flags : ℕ) : Type 0 where

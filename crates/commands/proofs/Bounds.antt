@@ -4,6 +4,7 @@ use mathlib.Core.Path.{_≡_, refl, sym, ap, _∙_, subst}
 use mathlib.Core.Bool.{Bool, true, false, cond, false≢true}
 use mathlib.Core.List.{List, [], _∷_, map}
 use native.Mathlib.Omega.{arith}
+use lib.Dec.{eqb}
 use lib.ListN.{length}
 use Rattle.packet.specs.Packet.{width, registerBytes, packetBytes, lowBytes}
 use Rattle.packet.proofs.Bytes.{length-register}
@@ -21,6 +22,7 @@ use Rattle.commands.specs.Said.{returned, sent, repliesOf}
 use Rattle.commands.specs.Plans.{Plan, Answer, Silent, Returns, ReturnsTwice, ReturnsAndSends, Checked, Sends, SendsSample, SendsLevel, SendsEprom, SendsSerial, SendsTimings, SendsPacket, SendsLow, ReturnsThenLow, saidOf, received, carriedOut}
 use Rattle.commands.specs.Events.{planOf, effectOf}
 use Rattle.commands.specs.Promises.{mostReplies, Sized, replyCount, FewActions, FewReplies}
+use Rattle.commands.proofs.Choices.{at-most}
 use Rattle.commands.proofs.Sent.{replies-sent}
 use Rattle.commands.proofs.KeptParts.{Kept}
 use Rattle.commands.proofs.Keeps.{plan-keeps}
@@ -65,13 +67,10 @@ module _ (s : State) (z : Sized s) (h : s .page .size < width) where
 
   few : (on : Bool) (a : Answer) → replyCount on s a ≤ mostReplies
   few on Silent = omega arith
-  few true (Returns k) = omega arith
-  few false (Returns k) = omega arith
-  few true ReturnsTwice = omega arith
-  few false ReturnsTwice = omega arith
+  few on (Returns k) = omega (arith, at-most on 1)
+  few on ReturnsTwice = omega (arith, at-most on 2)
   few on (ReturnsAndSends k) = omega arith
-  few true (Checked k) = omega arith
-  few false (Checked k) = omega arith
+  few on (Checked k) = omega (arith, at-most on 1)
   few on (Sends v) = omega arith
   few on SendsSample = omega arith
   few on SendsLevel = omega arith
@@ -80,20 +79,17 @@ module _ (s : State) (z : Sized s) (h : s .page .size < width) where
   few on SendsTimings = omega arith
   few on SendsPacket = omega arith
   few on SendsLow = omega arith
-  few true ReturnsThenLow = omega arith
-  few false ReturnsThenLow = omega arith
+  few on ReturnsThenLow = omega (arith, at-most on 1)
 
 -- a short answer is at most two bytes, whatever the state holds
 short-few : (on : Bool) (s : State) (x : ℕ) (a : Answer) → short a ≡ true → length (repliesOf on (saidOf s x a)) ≤ mostReplies
 unfolding repliesOf
 short-few on s x Silent h = omega arith
-short-few true s x (Returns k) h = omega arith
-short-few false s x (Returns k) h = omega arith
+short-few on s x (Returns k) h = omega (arith, one-or-none on k, at-most on 1)
 short-few true s x ReturnsTwice h = omega arith
 short-few false s x ReturnsTwice h = omega arith
 short-few on s x (ReturnsAndSends k) h = omega arith
-short-few true s x (Checked k) h = omega arith
-short-few false s x (Checked k) h = omega arith
+short-few on s x (Checked k) h = omega (arith, one-or-none on (cond (eqb x 0) 0x00 k), at-most on 1)
 short-few on s x (Sends v) h = omega arith
 short-few on s x SendsSample h = omega arith
 short-few on s x SendsLevel h = omega arith
@@ -132,7 +128,6 @@ wave-packet q w.Reinit ss m e = e
 wave-packet q (w.ReinitHigh b) ss m e = e
 wave-packet q (w.Line b c) ss m e = e
 wave-packet q (w.Port b c d) ss m e = e
-wave-packet q (w.Strobe b c d) ss m e = e
 wave-packet q (w.PortPulse b c d f g) ss m e = e
 wave-packet q (w.Pb7Pulse b c) ss m e = e
 wave-packet q (w.SampleLine b) ss m e = e

@@ -32,7 +32,8 @@ use Rattle.commands.specs.declared.ExtendedCommand.the-variants as x
 use Rattle.commands.specs.declared.I2cCommand.the-variants as i
 use Rattle.commands.specs.declared.SpiCommand.the-variants as p
 use Rattle.commands.specs.declared.WireCommand.the-variants as w
-use Rattle.commands.proofs.KeptParts.{page-register, protected-fits, bit-most, bit-fits, register-fits, flag-count, page-flags, idle-page, waits, settles, Kept, kept-cond}
+use Rattle.commands.proofs.Choices.{at-most}
+use Rattle.commands.proofs.KeptParts.{page-register, protected-fits, bit-fits, register-fits, flag-count, page-flags, idle-page, waits, settles, Kept, kept-cond}
 
 -- THE PAGES OF 00 TO 03
 
@@ -59,8 +60,8 @@ module _ (s : State) (n : InRange s) where
   common-keeps e k.ReadError = record { page = q; wait = n .wait }
   common-keeps e k.SaveToEprom = record { page = q; wait = n .wait }
   common-keeps e k.ReadFromEprom = n
-  common-keeps e (k.SetReports on) = idle-page s _ e (page-flags (s .page) _ q (omega (arith, q .flag-bits, bit-most on)) (omega arith))
-  common-keeps e (k.SetAutoload on) = idle-page s _ e (page-flags (s .page) _ q (omega (arith, q .flag-bits, bit-most on)) (omega arith))
+  common-keeps e (k.SetReports on) = idle-page s _ e (page-flags (s .page) _ q (omega (arith, q .flag-bits, at-most on 1)) (omega arith))
+  common-keeps e (k.SetAutoload on) = idle-page s _ e (page-flags (s .page) _ q (omega (arith, q .flag-bits, at-most on 1)) (omega arith))
   common-keeps e (k.SetupPort a) = waits s (v.One (o.ToPort a)) q tt
   common-keeps e (k.ReadPort a) = n
   common-keeps e (k.ReadPins a) = n

@@ -1,10 +1,11 @@
 -- What keeps the ranges: the registers' rules, and how a state is put together. Assumes nothing.
-use Prim.Native.Nat.{ℕ, _+_, _*_, _/_, _%_, _<_, _≤_}
-use mathlib.Core.Path.{_≡_, refl, sym, ap, subst, _∙_}
+use Prim.Native.Nat.{ℕ, _+_, _*_, _/_, _%_, _<_}
+use mathlib.Core.Path.{_≡_, refl, sym, subst}
 use mathlib.Core.Bool.{Bool, true, false, cond}
 use native.Mathlib.Omega.{arith}
 use Rattle.registers.specs.Registers.{registerOf, withRegister, protected, withFlags, withPage, waiting, settled, bitsIn}
 use Rattle.registers.specs.Ranges.{selectedCount, PageInRange, WaitInRange, InRange}
+use Rattle.registers.proofs.Flags.{same-selected}
 use Rattle.registers.specs.declared.Page.{Page}
 use Rattle.registers.specs.declared.State.{State}
 use Rattle.registers.specs.declared.PortRegister.{PortRegister}
@@ -12,7 +13,8 @@ use Rattle.registers.specs.declared.PortRegister.the-variants as r
 use Rattle.registers.specs.declared.Wait.{Wait}
 use Rattle.registers.specs.declared.Wait.the-variants as v
 use Rattle.commands.specs.Plans.{Plan}
-use Rattle.commands.specs.Common.{Bit, Three, Four, Five, bitOf, withBit, keptFlags}
+use Rattle.commands.specs.Common.{Bit, Three, Four, Five, withBit, keptFlags}
+use Rattle.commands.proofs.Choices.{at-most}
 
 -- PORT REGISTERS
 
@@ -47,11 +49,6 @@ protected-fits p r.Portc n q = keep-c (p .portc) n (q .c-latch)
 protected-fits p r.Ddrd n q = keep-d (p .ddrd) n (q .d-direction)
 protected-fits p r.Portd n q = keep-d (p .portd) n (q .d-latch)
 
--- a bit set or cleared is at most 1
-pub bit-most : (on : Bool) → bitOf on ≤ 1
-bit-most true = omega arith
-bit-most false = omega arith
-
 -- a bit that a command sets or clears leaves a port register in its range
 low-two : (b : Bit) (on : Bool) (x : ℕ) → x % 4 ≡ 0 → withBit b on x % 4 ≡ 0
 low-two Three on x h = omega arith
@@ -59,9 +56,9 @@ low-two Four on x h = omega arith
 low-two Five on x h = omega arith
 
 low-six : (b : Bit) (on : Bool) (x : ℕ) → x < 64 → withBit b on x < 64
-low-six Three on x h = omega (arith, bit-most on)
-low-six Four on x h = omega (arith, bit-most on)
-low-six Five on x h = omega (arith, bit-most on)
+low-six Three on x h = omega (arith, at-most on 1)
+low-six Four on x h = omega (arith, at-most on 1)
+low-six Five on x h = omega (arith, at-most on 1)
 
 pub bit-fits : (r : PortRegister) (b : Bit) (on : Bool) (x : ℕ) → Fits r x → Fits r (withBit b on x)
 bit-fits r.Ddrb b on x f = tt
@@ -82,31 +79,15 @@ register-fits p r.Portd q = q .d-latch
 -- FLAGS
 
 -- the low three bits decide how many interfaces are selected
-first : (f : ℕ) → f % 2 ≡ f % 8 % 2
-first f = omega arith
-
-half : (f : ℕ) → f / 2 % 2 ≡ f % 8 / 2 % 2
-half f = let h : f / 2 ≡ 4 * (f / 8) + f % 8 / 2 = omega arith in rw h (omega arith)
-
-quarter : (f : ℕ) → f / 4 % 2 ≡ f % 8 / 4 % 2
-quarter f = let h : f / 4 ≡ 2 * (f / 8) + f % 8 / 4 = omega arith in rw h (omega arith)
-
-low-three : (f : ℕ) → selectedCount f ≡ selectedCount (f % 8)
-low-three f = λ i. first f i + half f i + quarter f i
+same-count : (f g : ℕ) → f % 8 ≡ g % 8 → selectedCount f ≡ selectedCount g
+same-count f g h = let t = same-selected f g h in λ i. t .i2c i + t .spi i + t .wire i
 
 -- an interface's flag beside those that are kept
 pub flag-count : (f flag : ℕ) → flag < 8 → selectedCount (keptFlags f + flag) ≡ selectedCount flag
-flag-count f flag h =
-    let e : (keptFlags f + flag) % 8 ≡ flag = omega arith in
-    low-three (keptFlags f + flag) ∙ ap selectedCount e
+flag-count f flag h = same-count (keptFlags f + flag) flag (omega arith)
 
 pub page-flags : (p : Page) (f : ℕ) → PageInRange p → f < 32 → f % 8 ≡ p .flags % 8 → PageInRange (withFlags p f)
-page-flags p f q h e =
-    let c : selectedCount f ≡ selectedCount (p .flags) = low-three f ∙ ap selectedCount e ∙ low-back in
-    record { one-interface = rw c (q .one-interface); flag-bits = h; size-register = q .size-register; configuration = q .configuration; c-direction = q .c-direction; c-latch = q .c-latch; d-direction = q .d-direction; d-latch = q .d-latch }
-  where
-    low-back : selectedCount (p .flags % 8) ≡ selectedCount (p .flags)
-    low-back = sym (low-three (p .flags))
+page-flags p f q h e = record { one-interface = rw (same-count f (p .flags) e) (q .one-interface); flag-bits = h; size-register = q .size-register; configuration = q .configuration; c-direction = q .c-direction; c-latch = q .c-latch; d-direction = q .d-direction; d-latch = q .d-latch }
 
 -- STATES
 
