@@ -3,7 +3,7 @@ use Prim.Native.Nat.{ℕ, _+_, _*_, _/_, _%_}
 use mathlib.Core.Bool.{Bool, true, false, cond}
 use mathlib.Core.List.{List, [], _∷_}
 use lib.Dec.{eqb}
-use Rattle.wire.specs.Action.{cs, ss, portB, portC, portD}
+use Rattle.wire.specs.Action.{waitCycles, cs, ss, portB, portC, portD}
 use Rattle.registers.specs.Registers.{spiSelected, registerOf, withRegister, withFlags, withError, withPage, withShared}
 use Rattle.registers.specs.declared.Page.{Page}
 use Rattle.registers.specs.declared.Shared.{Shared}
@@ -115,7 +115,7 @@ runCommon s k.ReadVersion = sends s (Sends (s .shared .version))
 runCommon s k.SetIog =
     let first = withBit Four true (s .page .portd) in
     let last = withBit Three true first in
-    performs (withPage s (withRegister (s .page) r.Portd last)) (w.Strobe first (s .shared .cycles) last)
+    performs (withPage s (withRegister (s .page) r.Portd last)) (w.PortPulse portD first waitCycles (s .shared .cycles) last)
 runCommon s k.DoExtended = awaits s v.Extended
 -- four bytes, low first (H)
 runCommon s k.ReadSerial = sends s SendsSerial

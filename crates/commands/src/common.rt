@@ -184,10 +184,12 @@ fn set_iog(mut s: State) -> Plan
     let first = with_bit(Bit::Four, true, s.page.portd);
     let last = with_bit(Bit::Three, true, first);
     s.page.portd = last;
-    let cycles = s.shared.cycles;
-    let wave = Waveform::Strobe {
+    let wait = s.shared.cycles;
+    let wave = Waveform::PortPulse {
+        line: wire::LINE_PORT_D,
         first,
-        cycles,
+        unit: wire::VERB_WAIT_CYCLES,
+        wait,
         last,
     };
     performing(s, wave)

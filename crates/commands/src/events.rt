@@ -94,17 +94,7 @@ fn write_config(s: State, x: u8) -> Plan
     let mut page = s.page;
     page.config = x % 8;
     page.configured = true;
-    let shared = s.shared;
-    Plan {
-        state: State {
-            page,
-            shared,
-            wait: Wait::Nothing,
-            held: [0; registers::HELD],
-        },
-        wave: Waveform::Still,
-        answer: Answer::Returns(0x00),
-    }
+    settling(s, page, Waveform::Still, Answer::Returns(0x00))
 }
 
 // An operand that becomes the size register.

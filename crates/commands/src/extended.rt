@@ -8,6 +8,7 @@ use crate::Plan;
 use crate::bits::with_bit;
 use crate::plans::awaiting;
 use crate::plans::returning;
+use crate::plans::settling;
 use crate::plans::storing;
 use registers::Operand;
 use registers::PortRegister;
@@ -103,17 +104,8 @@ fn read_cycles(s: State) -> Plan
     ensures { λ r. ⌜ r ≡ runExtended s ExtendedCommand.ReadCycles ⌝ }
 {
     let page = s.page;
-    let shared = s.shared;
-    Plan {
-        state: State {
-            page,
-            shared,
-            wait: Wait::Nothing,
-            held: [0; registers::HELD],
-        },
-        wave: Waveform::Still,
-        answer: Answer::Sends(shared.cycles),
-    }
+    let answer = Answer::Sends(s.shared.cycles);
+    settling(s, page, Waveform::Still, answer)
 }
 
 // What an extended command does.

@@ -10,7 +10,7 @@ use Rattle.registers.specs.declared.Page.{Page}
 use Rattle.signals.specs.Lines.{each}
 use Rattle.signals.specs.I2c.{i2cWrite, i2cRead}
 use Rattle.signals.specs.OneWire.{wireWrite, wireRead}
-use Rattle.signals.specs.Waveforms.{Waveform, Still, Reinit, ReinitHigh, Line, Port, Strobe, PortPulse, Pb7Pulse, SampleLine, SamplePort, Start, Stop, WriteI2c, ReadI2c, Exchange, ResetWire, WriteWire, WriteWireBit, WriteWireStrong, ReadWire, ReadWireBit, waveOf}
+use Rattle.signals.specs.Waveforms.{Waveform, Still, Reinit, ReinitHigh, Line, Port, PortPulse, Pb7Pulse, SampleLine, SamplePort, Start, Stop, WriteI2c, ReadI2c, Exchange, ResetWire, WriteWire, WriteWireBit, WriteWireStrong, ReadWire, ReadWireBit, waveOf}
 use Rattle.signals.specs.Counts.{actionCount}
 use Rattle.signals.proofs.Exchanges.{exchange-length, exchange-most}
 
@@ -21,7 +21,6 @@ action-count p Reinit ss s h l = refl
 action-count p (ReinitHigh a) ss s h l = refl
 action-count p (Line a b) ss s h l = refl
 action-count p (Port a b c) ss s h l = refl
-action-count p (Strobe a b c) ss s h l = refl
 action-count p (PortPulse a b c d e) ss s h l = refl
 action-count p (Pb7Pulse a b) ss s h l = refl
 action-count p (SampleLine a) ss s h l = refl
@@ -45,7 +44,6 @@ wave-few p Reinit ss s h = omega arith
 wave-few p (ReinitHigh a) ss s h = omega arith
 wave-few p (Line a b) ss s h = omega arith
 wave-few p (Port a b c) ss s h = omega arith
-wave-few p (Strobe a b c) ss s h = omega arith
 wave-few p (PortPulse a b c d e) ss s h = omega arith
 wave-few p (Pb7Pulse a b) ss s h = omega arith
 wave-few p (SampleLine a) ss s h = omega arith

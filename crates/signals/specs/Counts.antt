@@ -2,7 +2,7 @@
 use Prim.Native.Nat.{ℕ, _+_, _*_}
 use Rattle.registers.specs.Registers.{bitsIn}
 use Rattle.registers.specs.declared.Page.{Page}
-use Rattle.signals.specs.Waveforms.{Waveform, Still, Reinit, ReinitHigh, Line, Port, Strobe, PortPulse, Pb7Pulse, SampleLine, SamplePort, Start, Stop, WriteI2c, ReadI2c, Exchange, ResetWire, WriteWire, WriteWireBit, WriteWireStrong, ReadWire, ReadWireBit}
+use Rattle.signals.specs.Waveforms.{Waveform, Still, Reinit, ReinitHigh, Line, Port, PortPulse, Pb7Pulse, SampleLine, SamplePort, Start, Stop, WriteI2c, ReadI2c, Exchange, ResetWire, WriteWire, WriteWireBit, WriteWireStrong, ReadWire, ReadWireBit}
 
 abbrev pub actionCount : Page → Waveform → ℕ
 actionCount p Still = 0
@@ -10,7 +10,6 @@ actionCount p Reinit = 6
 actionCount p (ReinitHigh line) = 7
 actionCount p (Line verb line) = 1
 actionCount p (Port verb line x) = 1
-actionCount p (Strobe x n y) = 3
 actionCount p (PortPulse line x verb n y) = 3
 actionCount p (Pb7Pulse verb n) = 3
 actionCount p (SampleLine line) = 1

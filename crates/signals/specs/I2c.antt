@@ -3,7 +3,7 @@ use Prim.Native.Nat.{ℕ}
 use mathlib.Core.List.{List, [], _∷_, _++_}
 use Rattle.wire.specs.Action.{Action, action, scl, sda}
 use Rattle.packet.specs.Register.{byteBits, zeros}
-use Rattle.signals.specs.Lines.{released, low, sampled, openVerb, each}
+use Rattle.signals.specs.Lines.{released, low, sampled, lowOrReleased, each}
 
 -- 20: "SDA release, SCL release, SDA low, SCL low"
 abbrev pub i2cStart : List Action
@@ -15,7 +15,7 @@ i2cStop = low sda ∷ released scl ∷ released sda ∷ []
 
 -- a bit: "SDA low or release, SCL release, SCL low"
 abbrev pub i2cBit : ℕ → List Action
-i2cBit b = action (openVerb b) sda 0 ∷ released scl ∷ low scl ∷ []
+i2cBit b = lowOrReleased sda b ∷ released scl ∷ low scl ∷ []
 
 -- "SDA release, SCL release, sample SDA, SCL low"
 abbrev pub i2cSampled : List Action

@@ -24,16 +24,15 @@ sampled line = action sampleLine line 0
 abbrev pub waits : ℕ → Action
 waits n = action waitMicroseconds noLine n
 
--- the verb for a bit on a line that is never driven high: low for 0, release for 1
-abbrev pub openVerb : ℕ → ℕ
-openVerb bit = cond (eqb bit 0) driveLow release
+-- the verb for a bit: low for 0; for 1 release, or high where "Lines are driven"
+abbrev pub verbFor : ℕ → ℕ → ℕ
+verbFor one bit = cond (eqb bit 0) driveLow one
 
--- the verb for a bit on a line that is driven: low for 0, high for 1
-abbrev pub drivenVerb : ℕ → ℕ
-drivenVerb bit = cond (eqb bit 0) driveLow driveHigh
+abbrev pub lowOrReleased : ℕ → ℕ → Action
+lowOrReleased line bit = action (verbFor release bit) line 0
 
 abbrev pub driven : ℕ → ℕ → Action
-driven line bit = action (drivenVerb bit) line 0
+driven line bit = action (verbFor driveHigh bit) line 0
 
 -- what f gives for each of a list, in a row
 unfoldable pub each : (ℕ → List Action) → List ℕ → List Action

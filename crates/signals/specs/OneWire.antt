@@ -5,7 +5,7 @@ use lib.ListN.{getD, take}
 use Rattle.wire.specs.Action.{Action, action, release, dq}
 use Rattle.packet.specs.Register.{byteBits, zeros}
 use Rattle.signals.specs.declared.one_wire.Waits.{Waits}
-use Rattle.signals.specs.Lines.{released, low, sampled, waits, openVerb, each}
+use Rattle.signals.specs.Lines.{released, low, sampled, waits, lowOrReleased, each}
 
 -- "Timings: reset, write bit, read bit, three bytes each; defaults 86 C4 CC, BC BF F9, BC BF C7"
 abbrev pub defaultTimings : List ℕ
@@ -35,7 +35,7 @@ sampleSlot w = slot w (released dq) (sampled dq)
 
 -- a bit written: "low, wait, release or low, wait, release, wait"; the fifth action's verb may be another
 abbrev pub writeSlot : Waits → ℕ → ℕ → List Action
-writeSlot w fifth b = slot w (action (openVerb b) dq 0) (action fifth dq 0)
+writeSlot w fifth b = slot w (lowOrReleased dq b) (action fifth dq 0)
 
 -- "Bytes go low bit first"
 abbrev pub lowFirst : ℕ → List ℕ

@@ -6,14 +6,14 @@ use Rattle.packet.specs.Register.{register}
 use Rattle.packet.specs.Packet.{width, registerBytes, received}
 use Rattle.registers.specs.Registers.{highFirst, bitsIn}
 use Rattle.registers.specs.declared.Page.{Page}
-use Rattle.wire.specs.Action.{Action, action, release, driveHigh, samplePort, waitCycles, setLatch, portD, pb7, noLine}
+use Rattle.wire.specs.Action.{Action, action, release, driveHigh, samplePort, setLatch, pb7, noLine}
 use Rattle.wire.specs.Sample.{byteAt}
 use Rattle.signals.specs.Lines.{low, high, sampled, levels, byteOf, reinit}
 use Rattle.signals.specs.I2c.{i2cStart, i2cStop, i2cWrite, i2cRead}
 use Rattle.signals.specs.Spi.{exchange}
 use Rattle.signals.specs.OneWire.{resetWaits, writeWaits, readWaits, sampleSlot, wireWrite, wireRead}
 pub use Rattle.signals.specs.declared.Waveform.{Waveform}
-pub use Rattle.signals.specs.declared.Waveform.the-variants.{Still, Reinit, ReinitHigh, Line, Port, Strobe, PortPulse, Pb7Pulse, SampleLine, SamplePort, Start, Stop, WriteI2c, ReadI2c, Exchange, ResetWire, WriteWire, WriteWireBit, WriteWireStrong, ReadWire, ReadWireBit}
+pub use Rattle.signals.specs.declared.Waveform.the-variants.{Still, Reinit, ReinitHigh, Line, Port, PortPulse, Pb7Pulse, SampleLine, SamplePort, Start, Stop, WriteI2c, ReadI2c, Exchange, ResetWire, WriteWire, WriteWireBit, WriteWireStrong, ReadWire, ReadWireBit}
 
 -- the actions, the samples used, the byte that they give (a single sample as it stands), and the packet register after them
 pub record Wave : Type 0 where
@@ -41,7 +41,6 @@ waveOf p Reinit ss s = quiet p reinit
 waveOf p (ReinitHigh line) ss s = quiet p (reinit ++ (high line ∷ []))
 waveOf p (Line verb line) ss s = quiet p (action verb line 0 ∷ [])
 waveOf p (Port verb line x) ss s = quiet p (action verb line x ∷ [])
-waveOf p (Strobe x n y) ss s = quiet p (action setLatch portD x ∷ action waitCycles noLine n ∷ action setLatch portD y ∷ [])
 waveOf p (PortPulse line x verb n y) ss s = quiet p (action setLatch line x ∷ action verb noLine n ∷ action setLatch line y ∷ [])
 waveOf p (Pb7Pulse verb n) ss s = quiet p (low pb7 ∷ action verb noLine n ∷ high pb7 ∷ [])
 waveOf p (SampleLine line) ss s = once p (sampled line ∷ []) ss s

@@ -42,7 +42,7 @@ fn put_bit(out: &mut [u8], at: usize, bit: u8) -> usize
     requires { ⌜ at + 12 ≤ length (now out) ⌝ }
     ensures { λ next. ⌜ Written (now (out .entry)) at (bytesOf (i2cBit bit)) (now (out .exit)) next ⌝ }
 {
-    let verb = lines::open_verb(bit);
+    let verb = lines::verb_for(RELEASE, bit);
     let a = wire::put_action(out, at, verb, SDA, 0);
     let b = wire::put_action(out, a, RELEASE, SCL, 0);
     wire::put_action(out, b, LOW, SCL, 0)

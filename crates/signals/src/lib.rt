@@ -36,11 +36,6 @@ pub enum Waveform {
         line: u8,
         value: u8,
     },
-    Strobe {
-        first: u8,
-        cycles: u8,
-        last: u8,
-    },
     PortPulse {
         line: u8,
         first: u8,
@@ -142,7 +137,6 @@ pub fn sense(page: Page, wave: Waveform, samples: &[u8], from: usize) -> Sensed
         Waveform::ReinitHigh(_) => quiet(kept, 7),
         Waveform::Line { .. } => quiet(kept, 1),
         Waveform::Port { .. } => quiet(kept, 1),
-        Waveform::Strobe { .. } => quiet(kept, 3),
         Waveform::PortPulse { .. } => quiet(kept, 3),
         Waveform::Pb7Pulse { .. } => quiet(kept, 3),
         Waveform::SampleLine(_) => once(kept, 1, samples, from),
@@ -174,11 +168,6 @@ pub fn write(out: &mut [u8], page: Page, wave: Waveform, samples: &[u8], from: u
         Waveform::ReinitHigh(line) => lines::put_reinit_high(out, line),
         Waveform::Line { verb, line } => wire::put_action(out, 0, verb, line, 0),
         Waveform::Port { verb, line, value } => wire::put_action(out, 0, verb, line, value as u16),
-        Waveform::Strobe {
-            first,
-            cycles,
-            last,
-        } => lines::put_strobe(out, first, cycles, last),
         Waveform::PortPulse {
             line,
             first,

@@ -3,9 +3,9 @@ ghost use mathlib.Core.Path.{_≡_};
 ghost use Prim.Native.Nat.{_+_, _≤_};
 ghost use mathlib.Core.List.{[], _∷_, _++_};
 ghost use lib.ListN.{length};
-ghost use Rattle.wire.specs.Action.{action, bytesOf, setLatch, waitCycles, portD, pb7, noLine};
+ghost use Rattle.wire.specs.Action.{action, bytesOf, setLatch, pb7, noLine};
 ghost use Rattle.wire.specs.Buffer.{Written};
-ghost use Rattle.signals.specs.Lines.{low, high, openVerb, drivenVerb, reinit};
+ghost use Rattle.signals.specs.Lines.{low, high, verbFor, reinit};
 use crate::ports;
 
 const LOW: u8 = wire::VERB_DRIVE_LOW;
@@ -14,18 +14,11 @@ const HIGH: u8 = wire::VERB_DRIVE_HIGH;
 
 const LATCH: u8 = wire::VERB_LATCH;
 
-// The verb for a bit on a line that is never driven high.
-pub(crate) fn open_verb(bit: u8) -> u8
-    ensures { λ r. ⌜ r ≡ openVerb bit ⌝ }
+// The verb for a bit, where the one for 1 is release on an open line and high on a driven one.
+pub(crate) fn verb_for(one: u8, bit: u8) -> u8
+    ensures { λ r. ⌜ r ≡ verbFor one bit ⌝ }
 {
-    if bit == 0 { LOW } else { wire::VERB_RELEASE }
-}
-
-// The verb for a bit on a line that is driven.
-pub(crate) fn driven_verb(bit: u8) -> u8
-    ensures { λ r. ⌜ r ≡ drivenVerb bit ⌝ }
-{
-    if bit == 0 { LOW } else { HIGH }
+    if bit == 0 { LOW } else { one }
 }
 
 // Reinit: all directions and latches 0.
@@ -53,21 +46,6 @@ pub(crate) fn put_pulse(out: &mut [u8], line: u8, first: u8, unit: u8, wait: u8,
     let a = wire::put_action(out, 0, LATCH, line, first as u16);
     let b = wire::put_action(out, a, unit, wire::NO_LINE, wait as u16);
     wire::put_action(out, b, LATCH, line, last as u16)
-}
-
-// A latch of D written, a wait in cycles, and the latch written again.
-pub(crate) fn put_strobe(out: &mut [u8], first: u8, cycles: u8, last: u8) -> usize
-    requires { ⌜ 12 ≤ length (now out) ⌝ }
-    ensures { λ n. ⌜ Written (now (out .entry)) 0 (bytesOf (action setLatch portD first ∷ action waitCycles noLine cycles ∷ action setLatch portD last ∷ [])) (now (out .exit)) n ⌝ }
-{
-    put_pulse(
-        out,
-        wire::LINE_PORT_D,
-        first,
-        wire::VERB_WAIT_CYCLES,
-        cycles,
-        last,
-    )
 }
 
 // PB7 driven low, a wait, and PB7 driven high.

@@ -86,7 +86,7 @@ fn put_bits(out: &mut [u8], w: Waits, n: u8, byte: u8) -> usize
     let mut at: usize = 0;
     let mut i: u8 = 0;
     while i < n {
-        let verb = lines::open_verb((byte >> i) % 2);
+        let verb = lines::verb_for(RELEASE, (byte >> i) % 2);
         at = put_slot(out, at, w, verb, RELEASE);
         i += 1;
     }
@@ -100,7 +100,7 @@ pub(crate) fn write(out: &mut [u8], ts: [u8; TIMINGS], n: u8, fifth: u8, byte: u
 {
     let w = write_waits(ts);
     let at = put_bits(out, w, n - 1, byte);
-    let verb = lines::open_verb((byte >> (n - 1)) % 2);
+    let verb = lines::verb_for(RELEASE, (byte >> (n - 1)) % 2);
     put_slot(out, at, w, verb, fifth)
 }
 

@@ -12,6 +12,8 @@ use registers::Page;
 
 const SAMPLE: u8 = wire::VERB_SAMPLE_LINE;
 
+const HIGH: u8 = wire::VERB_DRIVE_HIGH;
+
 const SCK: u8 = wire::LINE_SCK;
 
 const MOSI: u8 = wire::LINE_MOSI;
@@ -23,9 +25,9 @@ fn put_bit(out: &mut [u8], at: usize, polarity: u8, phase: bool, bit: u8) -> usi
     requires { ⌜ (at + 16 ≤ length (now out)) × ((polarity < 2) × (bit < 2)) ⌝ }
     ensures { λ next. ⌜ Written (now (out .entry)) at (bytesOf (spiBit polarity phase bit)) (now (out .exit)) next ⌝ }
 {
-    let away = lines::driven_verb(1 - polarity);
-    let back = lines::driven_verb(polarity);
-    let data = lines::driven_verb(bit);
+    let away = lines::verb_for(HIGH, 1 - polarity);
+    let back = lines::verb_for(HIGH, polarity);
+    let data = lines::verb_for(HIGH, bit);
     if phase {
         let a = wire::put_action(out, at, away, SCK, 0);
         let b = wire::put_action(out, a, data, MOSI, 0);
@@ -71,6 +73,6 @@ pub(crate) fn put_exchange(out: &mut [u8], page: Page) -> usize
     let phase = page.config % 2 == 1;
     let polarity = page.config / 2 % 2;
     let high = page.config / 4 % 2 == 1;
-    let at = wire::put_action(out, 0, lines::driven_verb(polarity), SCK, 0);
+    let at = wire::put_action(out, 0, lines::verb_for(HIGH, polarity), SCK, 0);
     put_bits(out, at, r, n, high, polarity, phase)
 }

@@ -17,4 +17,4 @@ put-bit-spec =
     let p = c .before .before in
     let q = p .before .before .before .before in
     let r = q .before .before .before .before in
-    then (then (rw (r .before .before .open-verb .ensures) at (r .put-action .ensures)) (q .put-action2 .ensures)) (p .put-action3 .ensures)))
+    then (then (rw (r .before .before .verb-for .ensures) at (r .put-action .ensures)) (q .put-action2 .ensures)) (p .put-action3 .ensures)))

@@ -1,10 +1,10 @@
 -- By whether the bit is 0.
 use borrow.Author.Tests.{eq-eqb, ne-eqb}
-use Rattle.signals.proofs.lines.open_verb.Statement.{statement}
-use Rattle.signals.proofs.lines.open_verb.Tie as tie
+use Rattle.signals.proofs.lines.verb_for.Statement.{statement}
+use Rattle.signals.proofs.lines.verb_for.Tie as tie
 
-pub open-verb-spec : {M : Type 1} → statement M
-open-verb-spec =
+pub verb-for-spec : {M : Type 1} → statement M
+verb-for-spec =
     tie.close
     (tie.spec
     (λ c. rw (eq-eqb _ _ (c .if1 .taken)))

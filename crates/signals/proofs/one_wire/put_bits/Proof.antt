@@ -45,7 +45,7 @@ put-bits-spec =
     let s = m .before .before in
     let n = s .args .n in
     let byte = s .args .byte in
-    (omega arith, owed-turn (row (s .args .w)) (take n (lowFirst byte)) (m .loop .inv .1) (omega (arith, length-low n byte (omega (arith, s .pre .0)))) (low-taken n byte (m .loop .i) (search needs) (omega (arith, s .pre .0))) (rw (v .open-verb .ensures) at (p .put-slot .ensures))))
+    (omega arith, owed-turn (row (s .args .w)) (take n (lowFirst byte)) (m .loop .inv .1) (omega (arith, length-low n byte (omega (arith, s .pre .0)))) (low-taken n byte (m .loop .i) (search needs) (omega (arith, s .pre .0))) (rw (v .verb-for .ensures) at (p .put-slot .ensures))))
     (λ c. c .before .loop .inv .1 .size)
     (λ c.
     let m = c .before in

@@ -5,7 +5,7 @@ use Prim.Native.Nat.{_-_}
 use native.Mathlib.Omega.{arith}
 use lib.ListN.{getD, take}
 use Rattle.wire.specs.Action.{bytesOf, release}
-use Rattle.signals.specs.Lines.{openVerb, each}
+use Rattle.signals.specs.Lines.{verbFor, each}
 use Rattle.signals.specs.OneWire.{writeSlot, lowFirst, wireWrite}
 use Rattle.signals.specs.declared.one_wire.Waits.{Waits}
 use Rattle.signals.proofs.Rows.{joined, first-fits, second-fits, same-written, same-room}
@@ -54,5 +54,5 @@ write-spec =
     let fifth = s .args .fifth in
     let W = g .write-waits .result in
     let e = ap (λ (w : Waits). bytesOf (wireWrite w n fifth byte)) (sym (g .write-waits .ensures)) in
-    let x : v .open-verb .result ≡ openVerb (getD (lowFirst byte) (n - 1) 0) = v .open-verb .ensures ∙ ap openVerb (sym (low-at byte (n - 1) (omega (arith, s .pre .0 .0, s .pre .0 .1)))) in
+    let x : v .verb-for .result ≡ verbFor release (getD (lowFirst byte) (n - 1) 0) = v .verb-for .ensures ∙ ap (verbFor release) (sym (low-at byte (n - 1) (omega (arith, s .pre .0 .0, s .pre .0 .1)))) in
     same-written e (joined (each (writeSlot W release) (take (n - 1) (lowFirst byte))) (writeSlot W fifth (getD (lowFirst byte) (n - 1) 0)) (p .put-bits .ensures) (rw x at (q .put-slot .ensures)))))

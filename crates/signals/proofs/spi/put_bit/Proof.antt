@@ -25,9 +25,9 @@ put-bit-spec =
     let r = q .before .before .before .before in
     let s = r .before .before .before .before in
     let d = s .before .before .before in
-    let away = d .before .before .driven-verb .ensures in
-    let back = d .before .driven-verb2 .ensures in
-    let bit = d .driven-verb3 .ensures in
+    let away = d .before .before .verb-for .ensures in
+    let back = d .before .verb-for2 .ensures in
+    let bit = d .verb-for3 .ensures in
     rw (s .before .before .if1 .taken) (then (then (then (rw away at (s .put-action .ensures)) (rw bit at (r .put-action2 .ensures))) (rw back at (q .put-action3 .ensures))) (p .put-action4 .ensures)))
     (λ c κs. search needs)
     (λ c κs. search needs)
@@ -40,7 +40,7 @@ put-bit-spec =
     let r = q .before .before .before .before in
     let s = r .before .before .before .before in
     let d = s .before .before .before in
-    let away = d .before .before .driven-verb .ensures in
-    let back = d .before .driven-verb2 .ensures in
-    let bit = d .driven-verb3 .ensures in
+    let away = d .before .before .verb-for .ensures in
+    let back = d .before .verb-for2 .ensures in
+    let bit = d .verb-for3 .ensures in
     rw (s .before .before .if1 .left) (then (then (then (rw bit at (s .put-action5 .ensures)) (rw away at (r .put-action6 .ensures))) (q .put-action7 .ensures)) (rw back at (p .put-action8 .ensures)))))

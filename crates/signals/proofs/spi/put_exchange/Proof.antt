@@ -32,10 +32,10 @@ put-exchange-spec =
     (λ c κs.
     let p = c .before .before .before in
     let s = p .before .before .before .before .before .before .before .before .before in
-    (omega (arith, s .pre .0), (omega arith, second-fits (clock (s .args .page)) (row (s .args .page)) (s .pre .1) (rw (p .before .driven-verb .ensures) at (p .put-action .ensures)))))
+    (omega (arith, s .pre .0), (omega arith, second-fits (clock (s .args .page)) (row (s .args .page)) (s .pre .1) (rw (p .before .verb-for .ensures) at (p .put-action .ensures)))))
     (λ c. search needs)
     (λ c.
     let q = c .before .before in
     let p = q .before .before .before .before in
     let s = p .before .before .before .before .before .before .before .before .before in
-    joined (clock (s .args .page)) (row (s .args .page)) (rw (p .before .driven-verb .ensures) at (p .put-action .ensures)) (q .put-bits .ensures)))
+    joined (clock (s .args .page)) (row (s .args .page)) (rw (p .before .verb-for .ensures) at (p .put-action .ensures)) (q .put-bits .ensures)))
