@@ -19,46 +19,25 @@ use registers::ports::port_register;
 use registers::ports::port_verb;
 use signals::Waveform;
 
+// The level that a pulse begins with.
+const UP: bool = true;
+
+const DOWN: bool = false;
+
+const MICROSECONDS: u8 = wire::VERB_WAIT_MICROSECONDS;
+
+const MILLISECONDS: u8 = wire::VERB_WAIT_MILLISECONDS;
+
 // The extended command of a byte.
 pub(crate) fn decode(b: u8) -> ExtendedCommand
     ensures { λ r. ⌜ r ≡ extendedOf b ⌝ }
 {
     match b {
-        0x01 => ExtendedCommand::Pulse {
-            latch: PortRegister::Portc,
-            bit: Bit::Five,
-            level: true,
-            unit: wire::VERB_WAIT_MICROSECONDS,
-            wait: 1,
-        },
-        0x02 => ExtendedCommand::Pulse {
-            latch: PortRegister::Portd,
-            bit: Bit::Three,
-            level: true,
-            unit: wire::VERB_WAIT_MICROSECONDS,
-            wait: 1,
-        },
-        0x03 => ExtendedCommand::Pulse {
-            latch: PortRegister::Portd,
-            bit: Bit::Four,
-            level: false,
-            unit: wire::VERB_WAIT_MICROSECONDS,
-            wait: 1,
-        },
-        0x08 => ExtendedCommand::Pulse {
-            latch: PortRegister::Portd,
-            bit: Bit::Four,
-            level: false,
-            unit: wire::VERB_WAIT_MILLISECONDS,
-            wait: 25,
-        },
-        0x09 => ExtendedCommand::Pulse {
-            latch: PortRegister::Portd,
-            bit: Bit::Four,
-            level: false,
-            unit: wire::VERB_WAIT_MILLISECONDS,
-            wait: 2,
-        },
+        0x01 => ExtendedCommand::Pulse(PortRegister::Portc, Bit::Five, UP, MICROSECONDS, 1),
+        0x02 => ExtendedCommand::Pulse(PortRegister::Portd, Bit::Three, UP, MICROSECONDS, 1),
+        0x03 => ExtendedCommand::Pulse(PortRegister::Portd, Bit::Four, DOWN, MICROSECONDS, 1),
+        0x08 => ExtendedCommand::Pulse(PortRegister::Portd, Bit::Four, DOWN, MILLISECONDS, 25),
+        0x09 => ExtendedCommand::Pulse(PortRegister::Portd, Bit::Four, DOWN, MILLISECONDS, 2),
         0x0A => ExtendedCommand::SetBit(PortRegister::Portd, Bit::Five, true),
         0x0B => ExtendedCommand::SetBit(PortRegister::Portd, Bit::Five, false),
         0x0C => ExtendedCommand::SetBit(PortRegister::Ddrd, Bit::Five, true),
@@ -113,13 +92,7 @@ pub(crate) fn run(s: State, c: ExtendedCommand) -> Plan
     ensures { λ r. ⌜ r ≡ runExtended s c ⌝ }
 {
     match c {
-        ExtendedCommand::Pulse {
-            latch,
-            bit,
-            level,
-            unit,
-            wait,
-        } => pulse(s, latch, bit, level, unit, wait),
+        ExtendedCommand::Pulse(r, bit, level, unit, n) => pulse(s, r, bit, level, unit, n),
         ExtendedCommand::SetBit(r, bit, on) => set_bit(s, r, bit, on),
         ExtendedCommand::LoadCycles => awaiting(s, Wait::One(Operand::ToCycles)),
         ExtendedCommand::ReadCycles => read_cycles(s),

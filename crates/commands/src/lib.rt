@@ -93,15 +93,9 @@ pub enum Bit {
     Five,
 }
 
-// The commands after 1D; a pulse takes a bit of a port's latch to a level and, after a wait, back.
+// The commands after 1D; a pulse takes a bit of a port's latch to a level and back, after a wait by its unit and count.
 pub enum ExtendedCommand {
-    Pulse {
-        latch: PortRegister,
-        bit: Bit,
-        level: bool,
-        unit: u8,
-        wait: u8,
-    },
+    Pulse(PortRegister, Bit, bool, u8, u8),
     SetBit(PortRegister, Bit, bool),
     LoadCycles,
     ReadCycles,
