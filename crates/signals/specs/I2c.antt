@@ -1,7 +1,7 @@
 -- The waveforms of I2C (01, "I2C").
 use Prim.Native.Nat.{ℕ}
 use mathlib.Core.List.{List, [], _∷_, _++_}
-use Rattle.wire.specs.Action.{Action, action, scl, sda}
+use Rattle.wire.specs.Action.{Action, scl, sda}
 use Rattle.packet.specs.Register.{byteBits, zeros}
 use Rattle.signals.specs.Lines.{released, low, sampled, lowOrReleased, each}
 
