@@ -3,14 +3,14 @@ ghost use mathlib.Core.Path.{_≡_};
 ghost use Prim.Native.Nat.{_<_};
 ghost use Rattle.packet.specs.Packet.{width};
 ghost use Rattle.bridge.specs.Views.{interfaceOf, contextOf};
-ghost use Rattle.bridge.specs.Judging.{isIdle, judgementOf};
+ghost use Rattle.bridge.specs.Judging.{judgementOf};
 use crate::Bridge;
 use crate::Judgement;
 use crate::Refusal;
+use crate::is_idle;
 use grammar::Context;
 use grammar::Interface;
 use registers::State;
-use registers::Wait;
 
 // The interface that the flags select.
 fn interface(flags: u8) -> Interface
@@ -38,22 +38,6 @@ fn context(s: State) -> Context
         interface: i,
         configured: s.page.configured,
         bits: s.page.size + 1,
-    }
-}
-
-// Whether nothing is waited for.
-fn is_idle(w: Wait) -> bool
-    ensures { λ r. ⌜ r ≡ isIdle w ⌝ }
-{
-    match w {
-        Wait::Nothing => true,
-        Wait::One(_) => false,
-        Wait::Extended => false,
-        Wait::Packet {
-            left: _,
-            exchange: _,
-        } => false,
-        Wait::Timings { left: _ } => false,
     }
 }
 

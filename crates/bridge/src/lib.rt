@@ -1,6 +1,8 @@
 // The bridge: one call for an event, and the judge's call.
 ghost use mathlib.Core.Path.{_≡_};
 ghost use Prim.Native.Nat.{_/_};
+ghost use Rattle.registers.specs.Ranges.{InRange};
+ghost use Rattle.bridge.specs.Judging.{isIdle};
 ghost use Rattle.bridge.specs.Calls.{numberOf, refusal, acceptance, given, lent, answerOf};
 
 mod judging;
@@ -9,6 +11,7 @@ mod preparing;
 use grammar::Verdict;
 use registers::Event;
 use registers::State;
+use registers::Wait;
 
 // The bridge that a call takes and hands back: the state of the crates below, by value.
 pub struct Bridge {
@@ -58,6 +61,22 @@ pub fn number(r: Refusal) -> u8
     }
 }
 
+// Whether nothing is waited for.
+pub fn is_idle(w: Wait) -> bool
+    ensures { λ r. ⌜ r ≡ isIdle w ⌝ }
+{
+    match w {
+        Wait::Nothing => true,
+        Wait::One(_) => false,
+        Wait::Extended => false,
+        Wait::Packet {
+            left: _,
+            exchange: _,
+        } => false,
+        Wait::Timings { left: _ } => false,
+    }
+}
+
 // A refused call's answer: the bridge that it was given, and no counts.
 fn refused(b: Bridge, why: Refusal) -> Stepped
     ensures { λ r. ⌜ r ≡ refusal b why ⌝ }
@@ -102,6 +121,24 @@ impl Bridge {
         if !registers::in_range(s) {
             return refused(self, Refusal::Ranges);
         }
+        self.step_in_range(event, samples, sampled, actions, acted, replies, replied)
+    }
+
+    // The same where the caller shows that the state breaks no range, so that a run of events tests it once.
+    pub fn step_in_range(
+        self,
+        event: Event,
+        samples: &[u8],
+        sampled: usize,
+        actions: &mut [u8],
+        acted: usize,
+        replies: &mut [u8],
+        replied: usize,
+    ) -> Stepped
+        requires { ⌜ InRange (self .state) ⌝ }
+        ensures { λ r. ⌜ given r (now (actions .exit)) (now (replies .exit)) ≡ answerOf self event (lent (now (samples .entry)) sampled (now (actions .entry)) acted (now (replies .entry)) replied) ⌝ }
+    {
+        let s = self.state;
         if samples.len() < sampled {
             return refused(self, Refusal::Samples); // past the end
         }

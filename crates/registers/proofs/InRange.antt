@@ -14,11 +14,11 @@ use Rattle.registers.specs.Ranges.{selectedCount, operandFits, waitFits,
 pub most-left : (size : ℕ) → size / 8 + 1 ≡ packetBytes (size + 1)
 most-left size = omega arith
 
-both-left : (a b : Bool) → a && b ≡ true → a ≡ true
+pub both-left : (a b : Bool) → a && b ≡ true → a ≡ true
 both-left true b e = refl
 both-left false b e = e
 
-both-right : (a b : Bool) → a && b ≡ true → b ≡ true
+pub both-right : (a b : Bool) → a && b ≡ true → b ≡ true
 both-right true b e = e
 both-right false b e = absurd (false≢true e)
 

@@ -1,16 +1,16 @@
 -- Laws of what a buffer holds after bytes are written to it, for any buffer and any bytes. Assumes nothing.
 use mathlib.Core.Path.{_≡_, refl, sym, ap, _∙_}
-use mathlib.Core.Bool.{false}
-use mathlib.Core.List.{List, [], _∷_, _++_, append-nil}
+use mathlib.Core.Bool.{true, false}
+use mathlib.Core.List.{List, [], _∷_, _++_, append-nil, append-assoc}
 use Prim.Native.Nat.{ℕ, zero, suc, _+_, _-_, _≤_, _<_}
 use native.Mathlib.Nat.{add-assoc, add-zero, zero-add, add-suc, suc-add, le-of-eq}
 use native.Mathlib.Decide.{decLe}
 use native.Mathlib.Omega.{arith}
 use native.Mathlib.Numerals.{add-one}
-use borrow.Author.Tests.{le-leb, lt-leb}
+use borrow.Author.Tests.{le-leb, lt-leb, leb-true}
 use lib.Dec.{leb}
-use lib.ListN.{getD, length, take, drop, set, length-append, length-drop, drop-of-length-le}
-use lib.Seq.{drop-cons, length-sets, sets-eq, take-all, take-set-le, drop-set-lt}
+use lib.ListN.{getD, length, take, drop, set, length-append, length-take, length-drop, drop-of-length-le}
+use lib.Seq.{drop-cons, length-sets, sets-eq, take-all, take-set-le, drop-set-lt, length-take-le, take-append-seam, drop-append-seam}
 use Rattle.wire.specs.Buffer.{overwrite, fitsIn, Written, Overwritten}
 
 pub overwrite-length : (l : List ℕ) (at : ℕ) (xs : List ℕ) → length (overwrite l at xs) ≡ length l
@@ -64,6 +64,28 @@ written-append l at xs ys {m} v w = record {
   after = w .after ∙ ap (λ (k : ℕ). k + length ys) (v .after) ∙ add-assoc at (length xs) (length ys) ∙ ap (λ (k : ℕ). at + k) (sym (length-append xs ys));
 }
 
+-- the bytes up to the end of what is written
+pub overwrite-through : (l : List ℕ) (at : ℕ) (xs : List ℕ) → at + length xs ≤ length l → take (at + length xs) (overwrite l at xs) ≡ take at l ++ xs
+overwrite-through l at xs h =
+    let n : at + length xs ≡ length (take at l ++ xs) = omega (arith, length-append (take at l) xs, length-take-le at l (omega arith)) in
+    (λ i. take (n i) (overwrite-right l at xs .parts h i)) ∙ take-append-seam (take at l ++ xs) (drop (at + length xs) l)
+
+-- what is written last in front of other bytes joins them
+pub overwrite-front : (l : List ℕ) (at : ℕ) (xs ys : List ℕ) → at + length xs + length ys ≤ length l → overwrite (overwrite l (at + length xs) ys) at xs ≡ overwrite l at (xs ++ ys)
+overwrite-front l at xs ys h =
+    let p = at + length xs in
+    let m = overwrite l p ys in
+    let b = drop (p + length ys) l in
+    let e : m ≡ take p l ++ (ys ++ b) = overwrite-right l p ys .parts h ∙ append-assoc (take p l) ys b in
+    let f : length (take p l) ≡ p = length-take-le p l (omega arith) in
+    let d : drop p m ≡ ys ++ b = ap (drop p) e ∙ ap (λ (n : ℕ). drop n (take p l ++ (ys ++ b))) (sym f) ∙ drop-append-seam (take p l) (ys ++ b) in
+    let n : p + length ys ≡ at + length (xs ++ ys) = omega (arith, length-append xs ys) in
+    overwrite-right m at xs .parts (omega (arith, overwrite-length l p ys))
+    ∙ (λ i. overwrite-before l p at ys (omega arith) i ++ xs ++ d i)
+    ∙ sym (append-assoc (take at l ++ xs) ys b)
+    ∙ (λ i. append-assoc (take at l) xs ys i ++ drop (n i) l)
+    ∙ sym (overwrite-right l at (xs ++ ys) .parts (omega (arith, n)))
+
 -- LENDING A PART from a place onward is writing at that place
 overwrite-cons : (x : ℕ) (l : List ℕ) (at : ℕ) (xs : List ℕ) → overwrite (x ∷ l) (suc at) xs ≡ x ∷ overwrite l at xs
 unfolding overwrite
@@ -87,6 +109,18 @@ lent l mark at ys xs e =
     ap (λ (r : List ℕ). take mark l ++ (ys ++ r)) (drop-of-length-le (drop mark l) (le-of-eq (length-drop mark l)))
     ∙ ap (λ (r : List ℕ). take mark l ++ r) (append-nil ys ∙ e ∙ ap (λ (r : List ℕ). overwrite r at xs) (take-all (length l - mark) (drop mark l) (le-of-eq (length-drop mark l))))
     ∙ overwrite-part l mark at xs
+
+-- .. or at its start
+pub written-after : (l : List ℕ) (mark : ℕ) {ys xs zs : List ℕ} {next : ℕ} → Written (take (length l - mark) (drop mark l)) 0 xs ys next → xs ≡ zs
+    → take mark l ++ (ys ++ drop (length l - mark) (drop mark l)) ≡ overwrite l mark zs
+written-after l mark {ys} {xs} w e = lent l mark 0 ys xs (w .bytes) ∙ (λ i. overwrite l (add-zero mark i) (e i))
+
+-- what fits after a mark fits in the part from there on
+pub part-start : (size mark need : ℕ) → fitsIn size mark need ≡ true → mark ≤ size
+part-start size mark need h = omega (arith, leb-true (mark + need) size h)
+
+pub part-room : (mark need : ℕ) (l : List ℕ) → fitsIn (length l) mark need ≡ true → need ≤ length (take (length l - mark) (drop mark l))
+part-room mark need l h = simp (length-take, length-drop) (omega (arith, leb-true (mark + need) (length l) h))
 
 -- one byte of a row: a turn of a loop that writes it
 pub put-turn : (l : List ℕ) (at : ℕ) (xs : List ℕ) (i : ℕ) → i < length xs → overwrite (set l (at + i) (getD xs i 0)) (at + (i + 1)) (drop (i + 1) xs) ≡ overwrite l (at + i) (drop i xs)

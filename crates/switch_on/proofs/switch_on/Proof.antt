@@ -3,7 +3,7 @@ use borrow.Author.Needs.{needs}
 use borrow.Author.Tests.{not-true, not-false}
 use mathlib.Core.Path.{sym, ap, _∙_, refl}
 use Rattle.switch_on.specs.SwitchOn.{SwitchedOn, pageOf, switched}
-use Rattle.bridge.proofs.Answers.{part-start, part-room, written-after}
+use Rattle.wire.proofs.Buffers.{part-start, part-room, written-after}
 use Rattle.switch_on.proofs.Ways.{same-fit, refuse-factory, refuse-actions, goes-on}
 use Rattle.switch_on.proofs.switch_on.Statement.{statement}
 use Rattle.switch_on.proofs.switch_on.Tie as tie

@@ -1,14 +1,10 @@
--- Way out by way out, the definition's answer.
+-- Refused for its ranges, or the call in range.
 use borrow.Author.Needs.{needs}
 use borrow.Author.Tests.{not-true, not-false}
 use mathlib.Core.Path.{sym, ap, _∙_}
-use native.Mathlib.Omega.{arith}
-use Rattle.wire.specs.Action.{bytesOf}
-use Rattle.wire.proofs.Buffers.{past-the-end}
 use Rattle.registers.proofs.InRange.{range-test}
 use Rattle.bridge.specs.Calls.{Stepped, given, lent}
-use Rattle.bridge.proofs.Readies.{actions-fit, replies-fit}
-use Rattle.bridge.proofs.Answers.{refuse-ranges, refuse-samples, refuse-actions, refuse-replies, take-event, part-start, part-room, written-after}
+use Rattle.bridge.proofs.Answers.{refuse-ranges}
 use Rattle.bridge.proofs.Bridge.step.Statement.{statement}
 use Rattle.bridge.proofs.Bridge.step.Tie as tie
 
@@ -23,88 +19,10 @@ step-spec =
     let s = i .before .before .before .before .before in
     let l = lent (s .args .samples .now) (s .args .sampled) (s .args .actions .now) (s .args .acted) (s .args .replies .now) (s .args .replied) in
     ap (λ (t : Stepped). given t (s .args .actions .now) (s .args .replies .now)) (c .refused .ensures) ∙ refuse-ranges (s .args .self) (s .args .event) l (sym (i .in-range .ensures) ∙ not-true _ (c .before .if1 .taken)))
-    (λ c κs. search needs)
-    (λ c.
+    (λ c κs.
     let i = c .before .before .before in
     let s = i .before .before .before .before .before in
-    let l = lent (s .args .samples .now) (s .args .sampled) (s .args .actions .now) (s .args .acted) (s .args .replies .now) (s .args .replied) in
-    ap (λ (t : Stepped). given t (s .args .actions .now) (s .args .replies .now)) (c .refused2 .ensures) ∙ refuse-samples (s .args .self) (s .args .event) l (sym (i .in-range .ensures) ∙ not-false _ (c .before .before .if1 .left)) (past-the-end _ _ _ (c .before .if2 .taken)))
-    (λ c κs.
-    let i = c .before .before in
-    let s = i .before .before .before .before .before in
-    (range-test (s .args .self .state) .0 (sym (i .in-range .ensures) ∙ not-false _ (c .before .if1 .left)), omega (arith, c .if2 .left)))
-    (λ c κs. search needs)
-    (λ c κs. search needs)
-    (λ c.
-    let f = c .before .before in
-    let p = f .before in
-    let i = p .before .before .before in
-    let s = i .before .before .before .before .before in
-    let h = sym (i .in-range .ensures) ∙ not-false _ (p .before .before .if1 .left) in
-    let l = lent (s .args .samples .now) (s .args .sampled) (s .args .actions .now) (s .args .acted) (s .args .replies .now) (s .args .replied) in
-    ap (λ (t : Stepped). given t (s .args .actions .now) (s .args .replies .now)) (c .refused3 .ensures) ∙ refuse-samples (s .args .self) (s .args .event) l h (rw (p .prepare .ensures .used) at (sym (f .fits2 .ensures) ∙ not-true _ (c .before .if3 .taken))))
-    (λ c κs. search needs)
-    (λ c κs. search needs)
-    (λ c.
-    let f = c .before .before in
-    let g = f .before .before in
-    let p = g .before in
-    let i = p .before .before .before in
-    let s = i .before .before .before .before .before in
-    let h = sym (i .in-range .ensures) ∙ not-false _ (p .before .before .if1 .left) in
-    let l = lent (s .args .samples .now) (s .args .sampled) (s .args .actions .now) (s .args .acted) (s .args .replies .now) (s .args .replied) in
-    ap (λ (t : Stepped). given t (s .args .actions .now) (s .args .replies .now)) (c .refused4 .ensures) ∙ refuse-actions (s .args .self) (s .args .event) l h (p .prepare .ensures .used) (sym (g .fits2 .ensures) ∙ not-false _ (f .before .if3 .left)) (p .prepare .ensures .bytes) (sym (f .fits3 .ensures) ∙ not-true _ (c .before .if4 .taken)))
-    (λ c κs. search needs)
-    (λ c κs. search needs)
-    (λ c.
-    let f = c .before .before in
-    let g = f .before .before in
-    let k = g .before .before in
-    let p = k .before in
-    let i = p .before .before .before in
-    let s = i .before .before .before .before .before in
-    let h = sym (i .in-range .ensures) ∙ not-false _ (p .before .before .if1 .left) in
-    let l = lent (s .args .samples .now) (s .args .sampled) (s .args .actions .now) (s .args .acted) (s .args .replies .now) (s .args .replied) in
-    ap (λ (t : Stepped). given t (s .args .actions .now) (s .args .replies .now)) (c .refused5 .ensures) ∙ refuse-replies (s .args .self) (s .args .event) l h (p .prepare .ensures .used) (sym (k .fits2 .ensures) ∙ not-false _ (g .before .if3 .left)) (p .prepare .ensures .bytes) (sym (g .fits3 .ensures) ∙ not-false _ (f .before .if4 .left)) (p .prepare .ensures .size) (sym (f .fits4 .ensures) ∙ not-true _ (c .before .if5 .taken)))
-    (λ c.
-    let t = c .before .before .before .before in
-    part-start _ _ _ (sym (t .before .fits3 .ensures) ∙ not-false _ (t .if4 .left)))
-    (λ c.
-    let t = c .before .before .before .before in
-    part-start _ _ _ (sym (t .before .fits3 .ensures) ∙ not-false _ (t .if4 .left)))
-    (λ c. search needs)
-    (λ c κs.
-    let t = c .before .before .before .before .before in
-    let p = t .before .before .before .before in
-    let s = p .before .before .before .before .before .before .before .before in
-    (p .prepare .ensures .page-small, actions-fit (p .prepare .ensures) _ (part-room (s .args .acted) _ (s .args .actions .now) (sym (t .before .fits3 .ensures) ∙ not-false _ (t .if4 .left)))))
-    (λ c.
-    let t = c .before .before .before .before .before .before in
-    part-start _ _ _ (sym (t .before .fits4 .ensures) ∙ not-false _ (t .if5 .left)))
-    (λ c.
-    let t = c .before .before .before .before .before .before in
-    part-start _ _ _ (sym (t .before .fits4 .ensures) ∙ not-false _ (t .if5 .left)))
-    (λ c. search needs)
-    (λ c κs.
-    let t = c .before .before .before .before .before .before .before in
-    let p = t .before .before .before .before .before .before in
-    let s = p .before .before .before .before .before .before .before .before in
-    (p .prepare .ensures .state-small, replies-fit (p .prepare .ensures) _ (part-room (s .args .replied) _ (s .args .replies .now) (sym (t .before .fits4 .ensures) ∙ not-false _ (t .if5 .left)))))
-    (λ c κs. search needs)
+    range-test (s .args .self .state) .0 (sym (i .in-range .ensures) ∙ not-false _ (c .before .before .if1 .left)))
     (λ c. search needs)
     (λ c. search needs)
-    (λ c.
-    let y = c .before .before .before in
-    let w = y .before .before .before .before in
-    let f = w .before .before .before .before .before in
-    let g = f .before .before in
-    let k = g .before .before in
-    let p = k .before in
-    let i = p .before .before .before in
-    let s = i .before .before .before .before .before in
-    let h = sym (i .in-range .ensures) ∙ not-false _ (p .before .before .if1 .left) in
-    let l = lent (s .args .samples .now) (s .args .sampled) (s .args .actions .now) (s .args .acted) (s .args .replies .now) (s .args .replied) in
-    rw (c .accepted .ensures)
-    (take-event (s .args .self) (s .args .event) l h (p .prepare .ensures .used) (sym (k .fits2 .ensures) ∙ not-false _ (g .before .if3 .left)) (p .prepare .ensures .bytes) (sym (g .fits3 .ensures) ∙ not-false _ (f .before .if4 .left)) (p .prepare .ensures .size) (sym (f .fits4 .ensures) ∙ not-false _ (w .before .before .before .before .if5 .left)) (p .prepare .ensures .state)
-    (written-after (s .args .actions .now) (s .args .acted) (w .write .ensures) (ap bytesOf (p .prepare .ensures .actions)))
-    (written-after (s .args .replies .now) (s .args .replied) (y .put-reply .ensures) (p .prepare .ensures .replies)))))
+    (λ c. search needs))
