@@ -4,6 +4,7 @@ use mathlib.Core.List.{List, [], _∷_}
 use Prim.Native.Nat.{ℕ}
 use Rattle.packet.specs.Register.{zeros}
 use Rattle.bridge.specs.Edges.{factory}
+use Rattle.bridge.specs.declared.Bridge.{Bridge}
 use Rattle.switch_on.specs.SwitchOn.{Device, onState}
 
 abbrev pub factoryImage : List ℕ
@@ -15,3 +16,7 @@ device = record { cycles = 0xFF; version = 0; serial = zeros 4 }
 -- THEOREM (proofs/Start.antt, `factory-start`): switch-on with no stored image gives the start that P1 to P12 are about
 abbrev pub FactoryStart : Type 0
 FactoryStart = onState [] factoryImage device ≡ factory
+
+-- the bridge that a session starts with
+abbrev pub starting : Bridge
+starting = record { state = onState [] factoryImage device }

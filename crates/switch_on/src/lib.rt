@@ -1,6 +1,9 @@
 // Switch-on: a bridge made from stored settings.
 ghost use mathlib.Core.Path.{_≡_};
 ghost use Prim.Native.Nat.{_/_};
+ghost use mathlib.Core.List.{[]};
+ghost use Rattle.packet.specs.Register.{zeros};
+ghost use Rattle.switch_on.specs.Start.{starting};
 ghost use Rattle.switch_on.specs.SwitchOn.{numberOf, stateOf, zeroState, switched, refusal, switchOf, settingsOf};
 
 mod actions;
@@ -18,6 +21,9 @@ pub struct Device {
     pub version: u8,
     pub serial: [u8; 4],
 }
+
+// The most actions of switch-on: six for the ports, and one for CS or SS.
+const MOST_ACTIONS: usize = 7;
 
 // Why switch-on is refused; `numberOf` in the definitions gives each its number.
 pub enum Refusal {
@@ -153,4 +159,26 @@ pub fn switch_on<'a>(
         outcome: Outcome::On,
         actions: n / wire::ACTION_BYTES,
     }
+}
+
+// Switched on from a factory image, with no stored one.
+fn from_factory(factory: &[u8], device: Device) -> Bridge
+    ensures { λ b. ⌜ b ≡ switchOf [] (now (factory .entry)) device (zeros 28) 0 .answer .bridge ⌝ }
+{
+    let mut actions = [0u8; MOST_ACTIONS * wire::ACTION_BYTES];
+    let r = switch_on(&factory[..0], factory, device, &mut actions, 0);
+    r.bridge
+}
+
+// The bridge that every session starts with.
+pub fn factory_start() -> Bridge
+    ensures { λ b. ⌜ b ≡ starting ⌝ }
+{
+    let device = Device {
+        cycles: 0xFF,
+        version: 0,
+        serial: [0; 4],
+    };
+    let factory = [0, 0, 0, 0, 0, 0, 0, 0xFF, 0xFF, 0xFF];
+    from_factory(&factory, device)
 }
