@@ -1,2 +1,11 @@
--- Laws of records.
+-- Laws that the proofs of several functions cite.
+pub mod Choices
 pub mod Bodies
+pub mod Ends
+pub mod Turns
+pub mod Room
+pub mod Carried
+pub mod Steps
+pub mod Rest
+pub mod Ranged
+pub mod Going

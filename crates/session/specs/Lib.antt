@@ -1,1 +1,5 @@
 pub mod Records
+pub mod Found
+pub mod Replay
+pub mod Runs
+pub mod Turned

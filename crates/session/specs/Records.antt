@@ -1,20 +1,17 @@
--- Records of a file (01, "Session file"): "body length (16 bits), kind (16 bits), little-endian, then the body", of any kind; and
--- what a session makes of them.
-use Prim.Native.Nat.{ℕ, _+_, _-_, _*_}
+-- Records of a file (01, "Session file"): "body length (16 bits), kind (16 bits), little-endian, then the body", of any kind.
+use Prim.Native.Nat.{ℕ, _+_, _-_, _*_, _/_, _%_}
 use mathlib.Core.Bool.{cond}
-use mathlib.Core.List.{List}
-use lib.Dec.{eqb, leb, ltb}
-use lib.ListN.{getD, length}
+use mathlib.Core.List.{List, [], _∷_, _++_}
+use lib.Dec.{leb, ltb}
+use lib.ListN.{getD, length, take, drop}
 pub use Rattle.session.specs.declared.Refusal.{Refusal}
-pub use Rattle.session.specs.declared.Refusal.the-variants.{Samples, Header, Length, Passes, Kind, FaultBody, Size}
+pub use Rattle.session.specs.declared.Refusal.the-variants.{Ranges, Samples, Header, Length, Passes, Kind, FaultBody, Size}
 pub use Rattle.session.specs.declared.records.Record.{Record}
 pub use Rattle.session.specs.declared.records.Record.the-variants as r
-pub use Rattle.session.specs.declared.records.Found.{Found}
-pub use Rattle.session.specs.declared.records.Found.the-variants as f
-use Rattle.registers.specs.declared.Fault.the-variants as k
 
 -- a refusal's number in the table
 abbrev pub numberOf : Refusal → ℕ
+numberOf Ranges = 1
 numberOf Samples = 2
 numberOf Header = 5
 numberOf Length = 6
@@ -27,6 +24,10 @@ numberOf Size = 10
 abbrev pub word : List ℕ → ℕ → ℕ
 word s at = getD s at 0 + 256 * getD s (at + 1) 0
 
+-- "that part of the file", from a start to an end
+abbrev pub part : List ℕ → ℕ → ℕ → List ℕ
+part s start end = take (end - start) (drop start s)
+
 -- A RECORD OF ANY KIND at a place: the end, or "1 to 3 bytes left where a record header should be" (5), "record length over 4,096"
 -- (6), "record body passes the end" (7), else its kind and its body from a start to an end
 unfoldable pub recordAt : List ℕ → ℕ → Record
@@ -37,22 +38,15 @@ recordAt s at =
     (cond (ltb (length s - at - 4) (word s at)) (r.Refused Passes)
     (r.Body (word s (at + 2)) (at + 4) (at + 4 + word s at)))))
 
--- WHAT A SESSION MAKES OF IT: "Kinds: 1 bytes, 2 fault, 3 samples"; "unknown kind" (8); "a fault body is not one byte of 81, 82, 83
--- hex" (9)
-abbrev pub faultOf : ℕ → ℕ → Found
-faultOf b start =
-    cond (eqb b 0x81) (f.LineFault k.Frame start) (cond (eqb b 0x82) (f.LineFault k.Overrun start) (cond (eqb b 0x83) (f.LineFault k.Parity start) (f.Refused FaultBody)))
+-- A RECORD WRITTEN: 16 bits and 32 bits as bytes, a header, and a record
+abbrev pub word16 : ℕ → List ℕ
+word16 n = n % 256 ∷ n / 256 % 256 ∷ []
 
-abbrev pub kindOf : List ℕ → ℕ → ℕ → ℕ → Found
-kindOf s kind start end =
-    cond (eqb kind 1) (f.Bytes start end)
-    (cond (eqb kind 2) (cond (eqb (end - start) 1) (faultOf (getD s start 0) start) (f.Refused FaultBody))
-    (cond (eqb kind 3) (f.Samples start end) (f.Refused Kind)))
+abbrev pub word32 : ℕ → List ℕ
+word32 n = n % 256 ∷ n / 256 % 256 ∷ n / 65536 % 256 ∷ n / 16777216 % 256 ∷ []
 
-abbrev pub taken : List ℕ → Record → Found
-taken s (r.Body kind start end) = kindOf s kind start end
-taken s r.End = f.End
-taken s (r.Refused why) = f.Refused why
+abbrev pub headOf : ℕ → ℕ → List ℕ
+headOf kind size = word16 size ++ word16 kind
 
-unfoldable pub foundAt : List ℕ → ℕ → Found
-foundAt s at = taken s (recordAt s at)
+abbrev pub recordOf : ℕ → List ℕ → List ℕ
+recordOf kind body = headOf kind (length body) ++ body

@@ -2,12 +2,11 @@
 ghost use mathlib.Core.Path.{_≡_};
 ghost use Prim.Native.Nat.{_+_, _*_, _≤_, _<_};
 ghost use lib.ListN.{length};
-ghost use Rattle.session.specs.Records.{word, recordAt, faultOf, kindOf, foundAt};
+ghost use Rattle.session.specs.Records.{word, recordAt};
 use crate::Refusal;
-use registers::Fault;
 
 // How many bytes a record's header has, and the most that its body may have.
-const HEADER: usize = 4;
+pub const HEADER: usize = 4;
 
 const MOST: usize = 4096;
 
@@ -18,15 +17,6 @@ pub enum Record {
         start: usize,
         end: usize,
     },
-    End,
-    Refused(Refusal),
-}
-
-// What a session finds there: bytes, a line fault, samples, the end, or a refusal.
-pub enum Found {
-    Bytes { start: usize, end: usize },
-    LineFault { fault: Fault, start: usize },
-    Samples { start: usize, end: usize },
     End,
     Refused(Refusal),
 }
@@ -69,58 +59,5 @@ pub fn record_at(s: &[u8], at: usize) -> Record
         kind,
         start: at + HEADER,
         end: at + HEADER + n,
-    }
-}
-
-// A line fault by its code.
-fn fault_of(code: u8, start: usize) -> Found
-    ensures { λ r. ⌜ r ≡ faultOf code start ⌝ }
-{
-    match code {
-        0x81 => Found::LineFault {
-            fault: Fault::Frame,
-            start,
-        },
-        0x82 => Found::LineFault {
-            fault: Fault::Overrun,
-            start,
-        },
-        0x83 => Found::LineFault {
-            fault: Fault::Parity,
-            start,
-        },
-        _ => Found::Refused(Refusal::FaultBody),
-    }
-}
-
-// What a session makes of a body by its kind: refusals 8 and 9.
-fn kind_of(s: &[u8], kind: usize, start: usize, end: usize) -> Found
-    requires { ⌜ (start ≤ end) × (end ≤ length (now s)) ⌝ }
-    ensures { λ r. ⌜ r ≡ kindOf (now (s .entry)) kind start end ⌝ }
-{
-    if kind == 1 {
-        return Found::Bytes { start, end };
-    }
-    if kind == 2 {
-        if end - start == 1 {
-            return fault_of(s[start], start);
-        }
-        return Found::Refused(Refusal::FaultBody);
-    }
-    if kind == 3 {
-        return Found::Samples { start, end };
-    }
-    Found::Refused(Refusal::Kind)
-}
-
-// What a session finds at a place.
-pub fn find(s: &[u8], at: usize) -> Found
-    ensures { λ r. ⌜ r ≡ foundAt (now (s .entry)) at ⌝ }
-{
-    let there = record_at(s, at);
-    match there {
-        Record::Body { kind, start, end } => kind_of(s, kind, start, end),
-        Record::End => Found::End,
-        Record::Refused(why) => Found::Refused(why),
     }
 }
