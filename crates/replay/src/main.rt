@@ -1,0 +1,38 @@
+// Replays the session of standard input, or of the file that the argument names, and writes its transcript to standard output.
+ghost use mathlib.Core.Path.{_≡_};
+ghost use mathlib.Core.Bool.{false};
+ghost use Prim.Native.Nat.{_<_};
+ghost use Rattle.session.specs.Runs.{left};
+use input::Input;
+use session::replay::Cursor;
+
+// One call of the run, and its chunk goes out; a chunk that can't be written ends the replay.
+fn write_chunk(cursor: Cursor, session: &[u8]) -> Cursor
+    ensures { λ r. ⌜ (cursor .done ≡ false → left (now (session .entry)) r < left (now (session .entry)) cursor) ⌝ }
+{
+    let mut out = io::large_buffer();
+    let r = session::replay::run(cursor, session, &mut out);
+    let n = r.written;
+    let mut next = r.cursor;
+    if !io::write_all(libc::STDOUT_FILENO, &out[..n]) {
+        os::fail(b"standard output");
+        next.done = true;
+    }
+    next
+}
+
+fn write_transcript(session: &[u8]) {
+    let mut cursor = session::replay::start();
+    while !cursor.done {
+        cursor = write_chunk(cursor, session);
+    }
+}
+
+// One byte more than a session may have is enough to refuse it for its size.
+fn main() {
+    let mut session = [0u8; 32769];
+    let Input::Whole(n) = input::read(&mut session) else {
+        return;
+    };
+    write_transcript(&session[..n]);
+}
