@@ -27,7 +27,8 @@ use Rattle.bridge.specs.declared.Refusal.the-variants as why
 use Rattle.bridge.specs.declared.Outcome.{Outcome}
 use Rattle.bridge.specs.declared.Outcome.the-variants.{Taken, Refused}
 use Rattle.bridge.specs.declared.Stepped.{Stepped}
-use Rattle.session.specs.Records.{Samples, headOf, recordOf}
+use Rattle.records.specs.declared.Refusal.the-variants.{Samples}
+use Rattle.records.specs.Records.{headOf, recordOf}
 use Rattle.session.specs.Replay.{Cursor, Turn, unlessEmpty, outputOf, stopped, after, eventTurn}
 use Rattle.session.specs.Runs.{Ran, mostOutput}
 use Rattle.session.specs.Turned.{Turned, Headed}

@@ -14,8 +14,10 @@ use Rattle.wire.specs.Buffer.{overwrite, Written}
 use Rattle.wire.proofs.Buffers.{overwrite-length, overwrite-beyond, overwrite-through, written-after}
 use Rattle.registers.specs.Ranges.{stateFits, InRange}
 use Rattle.registers.proofs.InRange.{range-test}
-use Rattle.session.specs.Records.{Refusal, Ranges, Size}
-use Rattle.session.specs.Found.{Found, foundAt}
+use Rattle.records.specs.declared.Refusal.{Refusal}
+use Rattle.records.specs.declared.Refusal.the-variants.{Ranges, Size}
+use Rattle.records.specs.declared.found.Found.{Found}
+use Rattle.records.specs.Found.{foundAt}
 use Rattle.session.specs.Replay.{Cursor, Turn, turnOf, ended, stopped, stepOf, restOf}
 use Rattle.session.specs.Runs.{Ran, mostOutput, left, Runs}
 use Rattle.session.specs.Turned.{Turned, Barred}

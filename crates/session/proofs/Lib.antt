@@ -1,7 +1,4 @@
 -- Laws that the proofs of several functions cite.
-pub mod Choices
-pub mod Bodies
-pub mod Ends
 pub mod Turns
 pub mod Room
 pub mod Carried

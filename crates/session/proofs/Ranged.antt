@@ -1,15 +1,21 @@
 -- Every step keeps the ranges of the cursor's state. Assumes nothing.
 use Prim.Native.Nat.{ℕ}
+use mathlib.Core.Path.{refl}
 use mathlib.Core.List.{List}
+use lib.Dec.{leb}
 use lib.ListN.{length}
 use Rattle.wire.specs.Buffer.{fitsIn}
-use Rattle.registers.specs.Ranges.{InRange}
+use Rattle.registers.specs.Ranges.{stateFits, InRange}
+use Rattle.registers.proofs.InRange.{range-test}
 use Rattle.commands.specs.Events.{effectOf}
 use Rattle.commands.proofs.Keeps.{event-keeps}
-use Rattle.session.specs.Found.{Found}
-use Rattle.session.specs.declared.found.Found.the-variants as f
-use Rattle.session.specs.Replay.{Cursor, Turn, lentTo, turnOf}
-use Rattle.session.proofs.Choices.{by-cond}
+use Rattle.switch_on.specs.Images.{isGood, usedOf}
+use Rattle.records.specs.Found.{foundAt}
+use Rattle.records.specs.declared.found.Found.{Found}
+use Rattle.records.specs.declared.found.Found.the-variants as f
+use Rattle.session.specs.Replay.{Cursor, Turn, lentTo, turnOf, stepOf, begin}
+use Rattle.session.specs.Runs.{StaysInRange}
+use Rattle.records.proofs.Choices.{by-cond}
 
 pub turn-ranged : (s : List ℕ) (c : Cursor) (x : Found) → InRange (c .bridge .state) → InRange (turnOf s c x .next .bridge .state)
 turn-ranged s c (f.Event e place) n =
@@ -18,3 +24,12 @@ turn-ranged s c (f.Bytes start end) n = n
 turn-ranged s c (f.Samples start end) n = n
 turn-ranged s c f.End n = n
 turn-ranged s c (f.Refused why place) n = n
+
+pub stays-in-range : StaysInRange
+unfolding stepOf isGood usedOf
+stays-in-range = record {
+  start = range-test (begin .bridge .state) .0 refl;
+  step = λ s c n. by-cond (λ (t : Turn). InRange (t .next .bridge .state)) (leb (length s) 32768)
+      (λ _. by-cond (λ (t : Turn). InRange (t .next .bridge .state)) (stateFits (c .bridge .state)) (λ _. turn-ranged s c (foundAt s (c .at) (c .end)) n) (λ _. n))
+      (λ _. n);
+}

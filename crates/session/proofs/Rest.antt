@@ -10,12 +10,13 @@ use lib.ListN.{length}
 use Rattle.wire.specs.Buffer.{fitsIn}
 use Rattle.registers.specs.Ranges.{stateFits}
 use Rattle.commands.specs.Events.{effectOf}
-use Rattle.session.specs.Found.{Found, foundAt}
-use Rattle.session.specs.declared.found.Found.the-variants as f
+use Rattle.records.specs.declared.found.Found.{Found}
+use Rattle.records.specs.Found.{foundAt}
+use Rattle.records.specs.declared.found.Found.the-variants as f
 use Rattle.session.specs.Replay.{Cursor, Turn, lentTo, turnOf, stepOf, restFor, restOf, replayOf}
 use Rattle.session.specs.Runs.{left, Runs, Calls, over, call, JoinedChunks, RestStep}
-use Rattle.session.proofs.Choices.{by-cond, by-bool}
-use Rattle.session.proofs.Bodies.{Further, further}
+use Rattle.records.proofs.Choices.{by-cond, by-bool}
+use Rattle.records.proofs.Bodies.{Further, further}
 
 pub left-live : (s : List ℕ) (c : Cursor) → c .done ≡ false → left s c ≡ suc (length s - c .at)
 left-live s c h = rw h

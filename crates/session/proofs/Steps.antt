@@ -8,13 +8,14 @@ use lib.Dec.{leb}
 use lib.ListN.{length, length-take, length-drop}
 use Rattle.registers.specs.declared.Event.{Event}
 use Rattle.wire.proofs.Buffers.{written-none}
-use Rattle.session.specs.Found.{Found, foundAt}
-use Rattle.session.specs.declared.found.Found.the-variants as f
+use Rattle.records.specs.declared.found.Found.{Found}
+use Rattle.records.specs.Found.{foundAt}
+use Rattle.records.specs.declared.found.Found.the-variants as f
 use Rattle.session.specs.Replay.{Cursor, turn, lentTo, turnOf}
 use Rattle.session.specs.Runs.{Ran}
 use Rattle.session.specs.Turned.{Turned}
-use Rattle.session.proofs.Choices.{by-cond}
-use Rattle.session.proofs.Bodies.{Further, further, part-of}
+use Rattle.records.proofs.Choices.{by-cond}
+use Rattle.records.proofs.Bodies.{Further, further, part-of}
 
 -- the turn of what was found
 pub turned-as : (s : List ℕ) (c : Cursor) {x y : Found} {o z : List ℕ} {r : Ran} → x ≡ y → Turned (turnOf s c y) o z r → Turned (turnOf s c x) o z r

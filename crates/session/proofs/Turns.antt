@@ -9,7 +9,7 @@ use borrow.Author.Tests.{eq-eqb, ne-eqb, ltb-true, ltb-false}
 use lib.Dec.{ltb}
 use lib.ListN.{length}
 use Rattle.wire.specs.Buffer.{Written}
-use Rattle.session.specs.Records.{headOf}
+use Rattle.records.specs.Records.{headOf}
 use Rattle.session.specs.Replay.{Cursor, Turn}
 use Rattle.session.specs.Runs.{Ran, mostOutput}
 use Rattle.session.specs.Turned.{Turned, Headed, Barred}

@@ -54,3 +54,8 @@ EnoughRoom b e l =
     InRange (b .state) → Sized (b .state)
     → l .acted + 4 * mostActions ≤ length (l .actions) → l .replied + mostReplies ≤ length (l .replies)
     → answerOf b e l ≡ unless (fitsIn (length (l .samples)) (l .sampled) ((effect b e l) .used)) (refused b l Samples) (taken (effect b e l) l)
+
+-- THEOREM (proofs/Ranged.antt, `stays-in-range`): the start is in range and every step keeps it, so no session ends with 1
+pub record StaysInRange : Type 0 where
+  pub start : InRange (begin .bridge .state)
+  pub step : (s : List ℕ) (c : Cursor) → InRange (c .bridge .state) → InRange (stepOf s c .next .bridge .state)

@@ -7,7 +7,7 @@ use mathlib.Core.Logic.{_⊎_}
 use lib.Dec.{eqb}
 use lib.ListN.{length}
 use Rattle.wire.specs.Buffer.{overwrite, Written}
-use Rattle.session.specs.Records.{headOf}
+use Rattle.records.specs.Records.{headOf}
 use Rattle.session.specs.Replay.{Cursor, Turn}
 use Rattle.session.specs.Runs.{Ran, mostOutput}
 

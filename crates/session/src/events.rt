@@ -6,12 +6,12 @@ ghost use Rattle.registers.specs.Ranges.{InRange};
 ghost use Rattle.session.specs.Replay.{stopped, eventTurn};
 ghost use Rattle.session.specs.Runs.{mostOutput};
 ghost use Rattle.session.specs.Turned.{Turned};
-use crate::Refusal;
 use crate::output;
-use crate::records::HEADER;
 use crate::replay::Cursor;
 use crate::replay::Ran;
 use bridge::Outcome;
+use records::Refusal;
+use records::reading::HEADER;
 use registers::Event;
 
 // The most reply bytes of an event.

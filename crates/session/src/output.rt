@@ -5,12 +5,13 @@ ghost use Prim.Native.Nat.{_+_, _*_, _≤_};
 ghost use lib.Dec.{eqb};
 ghost use lib.ListN.{length};
 ghost use Rattle.wire.specs.Buffer.{Written, overwrite};
-ghost use Rattle.session.specs.Records.{headOf, recordOf};
 ghost use Rattle.session.specs.Replay.{unlessEmpty, lastOf, refusalOf};
 ghost use Rattle.session.specs.Turned.{Headed};
 ghost use Rattle.bridge.specs.Judging.{isIdle};
-use crate::Refusal;
-use crate::number;
+use records::Refusal;
+use records::number;
+use records::writing::put_head;
+use records::writing::put_record;
 use registers::Wait;
 
 // The kinds of output records.
@@ -21,27 +22,6 @@ const ACTIONS: u16 = 0x0102;
 const LAST: u16 = 0x0104;
 
 const REFUSAL: u16 = 0x01FF;
-
-// A record's header, at a place where the caller shows room for it.
-fn put_head(out: &mut [u8], at: usize, kind: u16, size: usize) -> usize
-    requires { ⌜ at + 4 ≤ length (now out) ⌝ }
-    ensures { λ n. ⌜ Written (now (out .entry)) at (headOf kind size) (now (out .exit)) n ⌝ }
-{
-    let a = (size % 256) as u8;
-    let b = (size / 256 % 256) as u8;
-    let c = (kind % 256) as u8;
-    let d = (kind / 256 % 256) as u8;
-    wire::put_bytes(out, at, &[a, b, c, d])
-}
-
-// A record, at a place where the caller shows room for it.
-fn put_record(out: &mut [u8], at: usize, kind: u16, body: &[u8]) -> usize
-    requires { ⌜ at + 4 + length (now body) ≤ length (now out) ⌝ }
-    ensures { λ n. ⌜ Written (now (out .entry)) at (recordOf kind (now (body .entry))) (now (out .exit)) n ⌝ }
-{
-    let n = put_head(out, at, kind, body.len());
-    wire::put_bytes(out, n, body)
-}
 
 // The reply bytes as a record, none if empty, at a place where the caller shows room for it.
 pub(crate) fn put_replies(out: &mut [u8], at: usize, bytes: &[u8]) -> usize

@@ -4,16 +4,16 @@ ghost use Prim.Native.Nat.{_≤_};
 ghost use mathlib.Core.List.{[]};
 ghost use lib.ListN.{length};
 ghost use Rattle.registers.specs.Ranges.{InRange};
-ghost use Rattle.session.specs.Found.{foundAt};
+ghost use Rattle.records.specs.Found.{foundAt};
 ghost use Rattle.session.specs.Replay.{begin, lentTo, turnOf, stopped, ended};
 ghost use Rattle.session.specs.Runs.{mostOutput, Runs};
 ghost use Rattle.session.specs.Turned.{Turned, Barred};
-use crate::Refusal;
 use crate::events;
-use crate::found;
-use crate::found::Found;
 use crate::output;
 use bridge::Bridge;
+use records::Refusal;
+use records::found;
+use records::found::Found;
 
 // The most bytes of a session.
 const MOST_SESSION: usize = 32768;

@@ -2,7 +2,7 @@
 use borrow.Author.Needs.{needs}
 use native.Mathlib.Omega.{arith}
 use lib.ListN.{length}
-use Rattle.session.proofs.Bodies.{part-of}
+use Rattle.records.proofs.Bodies.{part-of}
 use Rattle.session.proofs.replay.lent.Statement.{statement}
 use Rattle.session.proofs.replay.lent.Tie as tie
 

@@ -2,9 +2,9 @@
 use mathlib.Core.Path.{sym, ap}
 use Prim.Native.Nat.{ℕ}
 use borrow.Author.Tests.{ne-eqb}
-use Rattle.session.specs.Found.{faultOf}
-use Rattle.session.proofs.found.fault_of.Statement.{statement}
-use Rattle.session.proofs.found.fault_of.Tie as tie
+use Rattle.records.specs.Found.{faultOf}
+use Rattle.records.proofs.found.fault_of.Statement.{statement}
+use Rattle.records.proofs.found.fault_of.Tie as tie
 
 pub fault-of-spec : {M : Type 1} → statement M
 fault-of-spec =

@@ -1,8 +1,8 @@
 -- One byte, or not.
 use borrow.Author.Needs.{needs}
 use borrow.Author.Tests.{eq-eqb, ne-eqb}
-use Rattle.session.proofs.found.fault_body.Statement.{statement}
-use Rattle.session.proofs.found.fault_body.Tie as tie
+use Rattle.records.proofs.found.fault_body.Statement.{statement}
+use Rattle.records.proofs.found.fault_body.Tie as tie
 
 pub fault-body-spec : {M : Type 1} → statement M
 fault-body-spec =

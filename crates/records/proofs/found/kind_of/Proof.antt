@@ -1,8 +1,8 @@
 -- Kind by kind.
 use borrow.Author.Needs.{needs}
 use borrow.Author.Tests.{eq-eqb, ne-eqb}
-use Rattle.session.proofs.found.kind_of.Statement.{statement}
-use Rattle.session.proofs.found.kind_of.Tie as tie
+use Rattle.records.proofs.found.kind_of.Statement.{statement}
+use Rattle.records.proofs.found.kind_of.Tie as tie
 
 pub kind-of-spec : {M : Type 1} → statement M
 kind-of-spec =

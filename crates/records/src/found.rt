@@ -3,16 +3,16 @@ ghost use mathlib.Core.Path.{_≡_};
 ghost use Prim.Native.Nat.{_≤_};
 ghost use lib.ListN.{length, getD};
 ghost use Rattle.registers.specs.declared.Event.the-variants as e;
-ghost use Rattle.session.specs.Records.{recordAt};
-ghost use Rattle.session.specs.Found.{faultOf, faultBody, kindOf, taken, foundAt};
+ghost use Rattle.records.specs.Records.{recordAt};
+ghost use Rattle.records.specs.Found.{faultOf, faultBody, kindOf, taken, foundAt};
 use crate::Refusal;
-use crate::records::Record;
-use crate::records::record_at;
+use crate::reading::Record;
+use crate::reading::record_at;
 use registers::Event;
 use registers::Fault;
 
 // An event with its place, a body of bytes or of samples from a start to an end, the end, or a refusal with its place.
-pub(crate) enum Found {
+pub enum Found {
     Event { event: Event, place: usize },
     Bytes { start: usize, end: usize },
     Samples { start: usize, end: usize },
@@ -103,7 +103,7 @@ fn first_byte(body: &[u8], place: usize) -> Found
 }
 
 // What is next for a replay that stands at a place, in a body up to an end or past it.
-pub(crate) fn find(s: &[u8], at: usize, end: usize) -> Found
+pub fn find(s: &[u8], at: usize, end: usize) -> Found
     ensures { λ r. ⌜ r ≡ foundAt (now (s .entry)) at end ⌝ }
 {
     if (at < end) & (end <= s.len()) {

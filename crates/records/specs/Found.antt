@@ -6,10 +6,10 @@ use lib.Dec.{eqb, leb, ltb}
 use lib.ListN.{getD, length}
 use Rattle.registers.specs.declared.Event.the-variants as e
 use Rattle.registers.specs.declared.Fault.the-variants as k
-use Rattle.session.specs.Records.{Kind, FaultBody, Record, part, recordAt}
-use Rattle.session.specs.declared.records.Record.the-variants as r
-pub use Rattle.session.specs.declared.found.Found.{Found}
-pub use Rattle.session.specs.declared.found.Found.the-variants as f
+use Rattle.records.specs.Records.{Kind, FaultBody, Record, part, recordAt}
+use Rattle.records.specs.declared.reading.Record.the-variants as r
+pub use Rattle.records.specs.declared.found.Found.{Found}
+pub use Rattle.records.specs.declared.found.Found.the-variants as f
 
 -- A FAULT'S BODY: "not one byte of 81, 82, 83 hex" is 9. The event's place is the byte, a refusal's the header (01).
 abbrev pub faultOf : ℕ → ℕ → ℕ → Found

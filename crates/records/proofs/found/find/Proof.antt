@@ -2,10 +2,10 @@
 use borrow.Author.Needs.{needs}
 use native.Mathlib.Omega.{arith}
 use lib.ListN.{length, length-take, length-drop}
-use Rattle.session.specs.Found.{foundAt}
-use Rattle.session.proofs.Bodies.{inside}
-use Rattle.session.proofs.found.find.Statement.{statement}
-use Rattle.session.proofs.found.find.Tie as tie
+use Rattle.records.specs.Found.{foundAt}
+use Rattle.records.proofs.Bodies.{inside}
+use Rattle.records.proofs.found.find.Statement.{statement}
+use Rattle.records.proofs.found.find.Tie as tie
 
 pub find-spec : {M : Type 1} → statement M
 unfolding foundAt

@@ -9,11 +9,11 @@ use borrow.Author.Tests.{leb-false, ltb-false, ltb-true, leb-true, eqb-true}
 use lib.Dec.{eqb, leb, ltb}
 use lib.ListN.{length, getD, length-take, length-drop}
 use Rattle.registers.proofs.InRange.{both-left, both-right}
-use Rattle.session.specs.Records.{Record, word, part, recordAt}
-use Rattle.session.specs.Found.{Found, faultOf, faultBody, kindOf, taken, foundAt}
-use Rattle.session.specs.declared.records.Record.the-variants as r
-use Rattle.session.specs.declared.found.Found.the-variants as f
-use Rattle.session.proofs.Choices.{by-cond}
+use Rattle.records.specs.Records.{Record, word, part, recordAt}
+use Rattle.records.specs.Found.{Found, faultOf, faultBody, kindOf, taken, foundAt}
+use Rattle.records.specs.declared.reading.Record.the-variants as r
+use Rattle.records.specs.declared.found.Found.the-variants as f
+use Rattle.records.proofs.Choices.{by-cond}
 
 -- A PART OF THE FILE, by the two tests of its start and end
 pub inside : (at end size : ℕ) → ltb at end && leb end size ≡ true → (at < end) × (end ≤ size)

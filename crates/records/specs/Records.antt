@@ -4,10 +4,10 @@ use mathlib.Core.Bool.{cond}
 use mathlib.Core.List.{List, [], _∷_, _++_}
 use lib.Dec.{leb, ltb}
 use lib.ListN.{getD, length, take, drop}
-pub use Rattle.session.specs.declared.Refusal.{Refusal}
-pub use Rattle.session.specs.declared.Refusal.the-variants.{Ranges, Samples, Header, Length, Passes, Kind, FaultBody, Size}
-pub use Rattle.session.specs.declared.records.Record.{Record}
-pub use Rattle.session.specs.declared.records.Record.the-variants as r
+pub use Rattle.records.specs.declared.Refusal.{Refusal}
+pub use Rattle.records.specs.declared.Refusal.the-variants.{Ranges, Samples, Header, Length, Passes, Kind, FaultBody, Size}
+pub use Rattle.records.specs.declared.reading.Record.{Record}
+pub use Rattle.records.specs.declared.reading.Record.the-variants as r
 
 -- a refusal's number in the table
 abbrev pub numberOf : Refusal → ℕ

@@ -2,7 +2,7 @@
 ghost use mathlib.Core.Path.{_≡_};
 ghost use Prim.Native.Nat.{_+_, _*_, _≤_, _<_};
 ghost use lib.ListN.{length};
-ghost use Rattle.session.specs.Records.{word, recordAt};
+ghost use Rattle.records.specs.Records.{word, recordAt};
 use crate::Refusal;
 
 // How many bytes a record's header has, and the most that its body may have.
