@@ -1,17 +1,18 @@
 // Replays the session of standard input, or of the file that the argument names, and writes its transcript to standard output.
 ghost use mathlib.Core.Path.{_≡_};
 ghost use mathlib.Core.Bool.{false};
-ghost use Prim.Native.Nat.{_<_};
-ghost use Rattle.session.specs.Runs.{left};
+ghost use Prim.Native.Nat.{_<_, _≤_};
+ghost use lib.ListN.{length};
+ghost use Rattle.session.specs.Runs.{mostOutput, left};
 use input::Input;
 use session::replay::Cursor;
 
-// One call of the run, and its chunk goes out; a chunk that can't be written ends the replay.
-fn write_chunk(cursor: Cursor, session: &[u8]) -> Cursor
+// One call of the run, and its chunk goes out; a chunk that can't be written ends the replay. The caller shows room for a step.
+fn write_chunk(cursor: Cursor, session: &[u8], out: &mut [u8]) -> Cursor
+    requires { ⌜ mostOutput ≤ length (now out) ⌝ }
     ensures { λ r. ⌜ (cursor .done ≡ false → left (now (session .entry)) r < left (now (session .entry)) cursor) ⌝ }
 {
-    let mut out = io::large_buffer();
-    let r = session::replay::run(cursor, session, &mut out);
+    let r = session::replay::run(cursor, session, out);
     let n = r.written;
     let mut next = r.cursor;
     if !io::write_all(libc::STDOUT_FILENO, &out[..n]) {
@@ -22,9 +23,10 @@ fn write_chunk(cursor: Cursor, session: &[u8]) -> Cursor
 }
 
 fn write_transcript(session: &[u8]) {
+    let mut out = io::large_buffer();
     let mut cursor = session::replay::start();
     while !cursor.done {
-        cursor = write_chunk(cursor, session);
+        cursor = write_chunk(cursor, session, &mut out);
     }
 }
 

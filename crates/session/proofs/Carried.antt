@@ -81,7 +81,7 @@ module _ (c : Cursor) (e : Event) (place : ℕ) (ss o : List ℕ) (n : InRange (
         go false q k = absurd (false≢true (ap isRefused (sym h ∙ ap (λ (v : Given). v .answer .outcome) k)))
 
     -- refused: the turn stops
-    pub turn-refused : {w : Refusal} → r .outcome ≡ Refused w → {x₂ : List ℕ} {q : Ran} → Turned (stopped c Samples place) a₁ x₂ q → Turned (eventTurn c e place ss) o x₂ q
+    pub turn-refused : {w : Refusal} → r .outcome ≡ Refused w → {x₂ : List ℕ} {q : Ran} → Turned (stopped Samples place) a₁ x₂ q → Turned (eventTurn c e place ss) o x₂ q
     turn-refused h u =
         let k = was-refused h in
         rw (k .0) (rw (k .1) at u)

@@ -18,7 +18,7 @@ use Rattle.records.specs.declared.Refusal.{Refusal}
 use Rattle.records.specs.declared.Refusal.the-variants.{Ranges, Size}
 use Rattle.records.specs.declared.found.Found.{Found}
 use Rattle.records.specs.Found.{foundAt}
-use Rattle.session.specs.Replay.{Cursor, Turn, turnOf, ended, stopped, stepOf, restOf}
+use Rattle.session.specs.Replay.{Cursor, Turn, turnOf, finished, stopped, stepOf, restOf}
 use Rattle.session.specs.Runs.{Ran, mostOutput, left, Runs}
 use Rattle.session.specs.Turned.{Turned, Barred}
 use Rattle.session.proofs.Rest.{falls, rest-step, left-live, left-done}
@@ -29,11 +29,11 @@ step-in-range : (s : List ℕ) (c : Cursor) → InRange (c .bridge .state) → l
 unfolding stepOf
 step-in-range s c n h = rw (le-leb (length s) 32768 h, range-test (c .bridge .state) .1 n)
 
-pub step-too-long : (s : List ℕ) (c : Cursor) → 32768 < length s → stepOf s c ≡ stopped c Size 0
+pub step-too-long : (s : List ℕ) (c : Cursor) → 32768 < length s → stepOf s c ≡ stopped Size 0
 unfolding stepOf
 step-too-long s c h = rw (lt-leb (length s) 32768 h)
 
-pub step-out-of-range : (s : List ℕ) (c : Cursor) → length s ≤ 32768 → stateFits (c .bridge .state) ≡ false → stepOf s c ≡ stopped c Ranges (c .at)
+pub step-out-of-range : (s : List ℕ) (c : Cursor) → length s ≤ 32768 → stateFits (c .bridge .state) ≡ false → stepOf s c ≡ stopped Ranges (c .at)
 unfolding stepOf
 step-out-of-range s c h n = rw (le-leb (length s) 32768 h, n)
 
@@ -86,7 +86,7 @@ module _ (s : List ℕ) (c : Cursor) (o x : List ℕ) (d : Cursor) (w : ℕ) (g 
   going-full full = record { chunk = g .chunk; within = g .within; beyond = g .beyond; stops = inr (omega (arith, g .same)); further = λ room live. g .less (omega (arith, g .same)) }
 
 -- A RUN THAT IS BARRED is its only step, if it has any
-module _ (s : List ℕ) (c : Cursor) (why : Refusal) (place : ℕ) (e : stepOf s c ≡ stopped c why place) (o x : List ℕ) (r : Ran) where
+module _ (s : List ℕ) (c : Cursor) (why : Refusal) (place : ℕ) (e : stepOf s c ≡ stopped why place) (o x : List ℕ) (r : Ran) where
   nothing-done : ((c .done ≡ true) ⊎ (length o < mostOutput)) → Runs s c o o (record { cursor = c; written = 0 })
   nothing-done k = record {
     chunk = refl;
@@ -100,15 +100,15 @@ module _ (s : List ℕ) (c : Cursor) (why : Refusal) (place : ℕ) (e : stepOf s
       k′ (inl q) = inl q
       k′ (inr q) = inr (omega arith)
 
-  pub barred : Barred c (stopped c why place) o x r → Runs s c o x r
+  pub barred : Barred c (stopped why place) o x r → Runs s c o x r
   barred (inl q) = rw (q .1, q .2) (nothing-done (q .0))
   barred (inr q) =
       let u = q .2 in
-      let bs = stopped c why place .bytes in
+      let bs = stopped why place .bytes in
       let n : r .written ≡ length bs = u .wrote .after ∙ zero-add (length bs) in
       let front : take (length bs) (overwrite o 0 bs) ≡ bs = ap (λ (k : ℕ). take k (overwrite o 0 bs)) (sym (zero-add (length bs))) ∙ overwrite-through o 0 bs (omega (arith, q .1)) in
       record {
-        chunk = rw (u .wrote .bytes, n, u .next) (ap (λ (l : List ℕ). l ++ restOf s (ended c)) front ∙ ap (λ (t : Turn). t .bytes ++ restOf s (t .next)) (sym e) ∙ sym (rest-step s c (q .0)));
+        chunk = rw (u .wrote .bytes, n, u .next) (ap (λ (l : List ℕ). l ++ restOf s finished) front ∙ ap (λ (t : Turn). t .bytes ++ restOf s (t .next)) (sym e) ∙ sym (rest-step s c (q .0)));
         within = u .within;
         beyond = rw (u .wrote .bytes, n) (overwrite-beyond o 0 (length bs) bs (omega arith));
         stops = inl (ap (λ (d : Cursor). d .done) (u .next));

@@ -10,26 +10,31 @@ use Rattle.registers.proofs.InRange.{range-test}
 use Rattle.commands.specs.Events.{effectOf}
 use Rattle.commands.proofs.Keeps.{event-keeps}
 use Rattle.switch_on.specs.Images.{isGood, usedOf}
+use Rattle.switch_on.specs.Start.{starting}
 use Rattle.records.specs.Found.{foundAt}
 use Rattle.records.specs.declared.found.Found.{Found}
 use Rattle.records.specs.declared.found.Found.the-variants as f
-use Rattle.session.specs.Replay.{Cursor, Turn, lentTo, turnOf, stepOf, begin}
+use Rattle.session.specs.Replay.{Cursor, Turn, lentTo, turnOf, stepOf}
 use Rattle.session.specs.Runs.{StaysInRange}
 use Rattle.records.proofs.Choices.{by-cond}
 
+start-ranged : InRange (starting .state)
+unfolding isGood usedOf
+start-ranged = range-test (starting .state) .0 refl
+
 pub turn-ranged : (s : List ℕ) (c : Cursor) (x : Found) → InRange (c .bridge .state) → InRange (turnOf s c x .next .bridge .state)
 turn-ranged s c (f.Event e place) n =
-    by-cond (λ (t : Turn). InRange (t .next .bridge .state)) (fitsIn (length (lentTo s c)) 0 (effectOf (c .bridge .state) e (lentTo s c) 0 .used)) (λ _. event-keeps (c .bridge .state) e (lentTo s c) 0 n) (λ _. n)
+    by-cond (λ (t : Turn). InRange (t .next .bridge .state)) (fitsIn (length (lentTo s c)) 0 (effectOf (c .bridge .state) e (lentTo s c) 0 .used)) (λ _. event-keeps (c .bridge .state) e (lentTo s c) 0 n) (λ _. start-ranged)
 turn-ranged s c (f.Bytes start end) n = n
 turn-ranged s c (f.Samples start end) n = n
-turn-ranged s c f.End n = n
-turn-ranged s c (f.Refused why place) n = n
+turn-ranged s c f.End n = start-ranged
+turn-ranged s c (f.Refused why place) n = start-ranged
 
 pub stays-in-range : StaysInRange
-unfolding stepOf isGood usedOf
+unfolding stepOf
 stays-in-range = record {
-  start = range-test (begin .bridge .state) .0 refl;
+  start = start-ranged;
   step = λ s c n. by-cond (λ (t : Turn). InRange (t .next .bridge .state)) (leb (length s) 32768)
-      (λ _. by-cond (λ (t : Turn). InRange (t .next .bridge .state)) (stateFits (c .bridge .state)) (λ _. turn-ranged s c (foundAt s (c .at) (c .end)) n) (λ _. n))
-      (λ _. n);
+      (λ _. by-cond (λ (t : Turn). InRange (t .next .bridge .state)) (stateFits (c .bridge .state)) (λ _. turn-ranged s c (foundAt s (c .at) (c .end)) n) (λ _. start-ranged))
+      (λ _. start-ranged);
 }

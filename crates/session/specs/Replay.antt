@@ -47,12 +47,13 @@ pub record Turn : Type 0 where
 abbrev pub turn : Cursor → List ℕ → Turn
 turn c xs = record { next = c; bytes = xs }
 
-abbrev pub ended : Cursor → Cursor
-ended c = record { bridge = c .bridge; at = c .at; end = c .end; sample = c .sample; sampled = c .sampled; done = true }
+-- where every replay is over: nothing of the session lingers in the cursor
+abbrev pub finished : Cursor
+finished = record { bridge = starting; at = 0; end = 0; sample = 0; sampled = 0; done = true }
 
 -- "A record that can't be taken ends the run there"
-abbrev pub stopped : Cursor → Refusal → ℕ → Turn
-stopped c why place = turn (ended c) (refusalOf why place)
+abbrev pub stopped : Refusal → ℕ → Turn
+stopped why place = turn finished (refusalOf why place)
 
 -- the samples unread; none where a cursor's places are no part of the file
 abbrev pub lentTo : List ℕ → Cursor → List ℕ
@@ -64,7 +65,7 @@ after c place x = record { bridge = record { state = x .state }; at = place + 1;
 
 -- an event; refusal 2 at its place. "Every event is lent room enough, so 3 and 4 don't arise" (Runs.antt, `EnoughRoom`)
 abbrev pub carried : Cursor → ℕ → List ℕ → Effect → Turn
-carried c place samples x = cond (fitsIn (length samples) 0 (x .used)) (turn (after c place x) (outputOf x)) (stopped c Samples place)
+carried c place samples x = cond (fitsIn (length samples) 0 (x .used)) (turn (after c place x) (outputOf x)) (stopped Samples place)
 
 abbrev pub eventTurn : Cursor → Event → ℕ → List ℕ → Turn
 eventTurn c e place samples = carried c place samples (effectOf (c .bridge .state) e samples 0)
@@ -80,15 +81,15 @@ abbrev pub turnOf : List ℕ → Cursor → Found → Turn
 turnOf s c (f.Event e place) = eventTurn c e place (lentTo s c)
 turnOf s c (f.Bytes start end) = turn (entered c start end) []
 turnOf s c (f.Samples start end) = turn (replaced c start end) []
-turnOf s c f.End = turn (ended c) (lastOf (c .bridge .state .wait))
-turnOf s c (f.Refused why place) = stopped c why place
+turnOf s c f.End = turn finished (lastOf (c .bridge .state .wait))
+turnOf s c (f.Refused why place) = stopped why place
 
 -- "10 is checked before any record", its place is 0; a cursor whose state breaks a range, which no session comes to, ends with 1
 unfoldable pub stepOf : List ℕ → Cursor → Turn
 stepOf s c =
     cond (leb (length s) 32768)
-    (cond (stateFits (c .bridge .state)) (turnOf s c (foundAt s (c .at) (c .end))) (stopped c Ranges (c .at)))
-    (stopped c Size 0)
+    (cond (stateFits (c .bridge .state)) (turnOf s c (foundAt s (c .at) (c .end))) (stopped Ranges (c .at)))
+    (stopped Size 0)
 
 -- THE TRANSCRIPT: what remains from a cursor on, in so many steps. A step takes a byte of the file or is the last, so the file's
 -- length and one are enough (Runs.antt, `RestStep`).

@@ -9,6 +9,7 @@ ghost use Rattle.session.specs.Turned.{Turned};
 use crate::output;
 use crate::replay::Cursor;
 use crate::replay::Ran;
+use crate::replay::ended;
 use bridge::Outcome;
 use records::Refusal;
 use records::reading::HEADER;
@@ -18,13 +19,12 @@ use registers::Event;
 pub(crate) const MOST_REPLIES: usize = 10;
 
 // The run ends here with a refusal. The caller shows room for its record.
-pub(crate) fn stop(c: Cursor, why: Refusal, place: usize, out: &mut [u8]) -> Ran
+pub(crate) fn stop(why: Refusal, place: usize, out: &mut [u8]) -> Ran
     requires { ⌜ 10 ≤ length (now out) ⌝ }
-    ensures { λ r. ⌜ Turned (stopped c why place) (now (out .entry)) (now (out .exit)) r ⌝ }
+    ensures { λ r. ⌜ Turned (stopped why place) (now (out .entry)) (now (out .exit)) r ⌝ }
 {
     let written = output::put_refusal(out, why, place);
-    let mut cursor = c;
-    cursor.done = true;
+    let cursor = ended();
     Ran { cursor, written }
 }
 
@@ -45,7 +45,7 @@ pub(crate) fn carry_out(
     let r = b.step_in_range(event, samples, 0, out, HEADER, &mut replies, 0);
     let outcome = r.outcome;
     match outcome {
-        Outcome::Refused(_) => stop(c, Refusal::Samples, place, out),
+        Outcome::Refused(_) => stop(Refusal::Samples, place, out),
         Outcome::Taken => {
             let at = output::put_actions_head(out, r.actions);
             let n = r.replies;

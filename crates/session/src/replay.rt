@@ -5,7 +5,7 @@ ghost use mathlib.Core.List.{[]};
 ghost use lib.ListN.{length};
 ghost use Rattle.registers.specs.Ranges.{InRange};
 ghost use Rattle.records.specs.Found.{foundAt};
-ghost use Rattle.session.specs.Replay.{begin, lentTo, turnOf, stopped, ended};
+ghost use Rattle.session.specs.Replay.{begin, finished, lentTo, turnOf, stopped};
 ghost use Rattle.session.specs.Runs.{mostOutput, Runs};
 ghost use Rattle.session.specs.Turned.{Turned, Barred};
 use crate::events;
@@ -56,6 +56,15 @@ pub fn start() -> Cursor
     }
 }
 
+// Where a replay is over: nothing of the session lingers in the cursor.
+pub(crate) fn ended() -> Cursor
+    ensures { λ c. ⌜ c ≡ finished ⌝ }
+{
+    let mut cursor = start();
+    cursor.done = true;
+    cursor
+}
+
 // The samples unread, as that part of the file; none where the places are no part of it.
 fn lent(session: &[u8], c: Cursor) -> &[u8]
     ensures { λ r. ⌜ now r ≡ lentTo (now (session .entry)) c ⌝ }
@@ -76,8 +85,7 @@ fn finish(c: Cursor, out: &mut [u8]) -> Ran
     let s = c.bridge.state;
     let w = s.wait;
     let written = output::put_last(out, w);
-    let mut cursor = c;
-    cursor.done = true;
+    let cursor = ended();
     Ran { cursor, written }
 }
 
@@ -113,13 +121,13 @@ fn step(c: Cursor, session: &[u8], out: &mut [u8]) -> Ran
             Ran { cursor, written: 0 }
         }
         Found::End => finish(c, out),
-        Found::Refused { why, place } => events::stop(c, why, place, out),
+        Found::Refused { why, place } => events::stop(why, place, out),
     }
 }
 
 // A run that is refused before anything is read: at once done, if there is room for the record.
 fn bar(c: Cursor, why: Refusal, place: usize, out: &mut [u8]) -> Ran
-    ensures { λ r. ⌜ Barred c (stopped c why place) (now (out .entry)) (now (out .exit)) r ⌝ }
+    ensures { λ r. ⌜ Barred c (stopped why place) (now (out .entry)) (now (out .exit)) r ⌝ }
 {
     if c.done | (out.len() < MOST_OUTPUT) {
         return Ran {
@@ -127,7 +135,7 @@ fn bar(c: Cursor, why: Refusal, place: usize, out: &mut [u8]) -> Ran
             written: 0,
         };
     }
-    events::stop(c, why, place, out)
+    events::stop(why, place, out)
 }
 
 // Steps while there is room for any step's output. The caller shows that the state breaks no range and that the session is not

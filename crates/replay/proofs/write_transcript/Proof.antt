@@ -1,15 +1,17 @@
--- The part of the session left falls.
+-- The part of the session left falls, and the buffer keeps its length.
 use borrow.Author.Needs.{needs}
 use borrow.Author.Tests.{not-true}
+use mathlib.Core.Path.{_≡_}
+use lib.ListN.{length}
 use Rattle.session.specs.Runs.{left}
 use Rattle.replay.proofs.write_transcript.Statement.{statement}
 use Rattle.replay.proofs.write_transcript.Tie as tie
 
 abbrev Inv-loop : tie.InvT-loop
-Inv-loop session cursor₀ cursor = Unit {0}
+Inv-loop session out₀ cursor₀ out cursor = 65536 ≡ length out
 
 abbrev μ-loop : tie.MeasureT-loop
-μ-loop session cursor₀ cursor = left session cursor
+μ-loop session out₀ cursor₀ out cursor = left session cursor
 
 pub write-transcript-spec : {M : Type 1} → statement M
 write-transcript-spec =
@@ -18,8 +20,10 @@ write-transcript-spec =
     Inv-loop
     μ-loop
     (λ c κs. search needs)
+    (λ c κs. search needs)
+    (λ c. search needs)
     (λ c. search needs)
     (λ c κs. search needs)
-    (λ c. c .write-chunk .ensures (not-true (c .before .before .before .loop .cursor .done) (c .before .if1 .taken)))
+    (λ c. c .before .write-chunk .ensures (not-true (c .before .before .before .before .before .loop .cursor .done) (c .before .before .before .if1 .taken)))
     (λ c. search needs)
     (λ c. search needs))
