@@ -29,7 +29,7 @@ use Rattle.commands.specs.Spi.{spiOf, runSpi}
 use Rattle.commands.specs.OneWire.{wireOf, runWire}
 use Rattle.commands.specs.Events.{commandPlan}
 use Rattle.commands.specs.declared.Bit.the-variants.{Three, Four}
-use Rattle.commands.specs.declared.Plan.{Plan}
+use Rattle.commands.specs.Plans.{Plan}
 use Rattle.commands.specs.declared.CommonCommand.{CommonCommand}
 use Rattle.commands.specs.declared.CommonCommand.the-variants as k
 use Rattle.commands.specs.declared.I2cCommand.{I2cCommand}

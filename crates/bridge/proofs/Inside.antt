@@ -18,7 +18,7 @@ use Rattle.registers.specs.declared.Operand.{Operand}
 use Rattle.registers.specs.declared.Operand.the-variants as o
 use Rattle.commands.specs.Extended.{runExtended}
 use Rattle.commands.specs.Events.{operandPlan, loadedPlan, packetPlan, timingsPlan}
-use Rattle.commands.specs.declared.Plan.{Plan}
+use Rattle.commands.specs.Plans.{Plan}
 use Rattle.commands.specs.declared.ExtendedCommand.{ExtendedCommand}
 use Rattle.commands.specs.declared.ExtendedCommand.the-variants as x
 use Rattle.bridge.specs.Views.{contextOf}

@@ -23,7 +23,7 @@ use Rattle.registers.specs.declared.State.{State}
 use Rattle.signals.specs.Waveforms.{Wave}
 use Rattle.commands.specs.Said.{codesOf}
 use Rattle.commands.specs.Plans.{saidOf, received, carriedOut, returns, sends}
-use Rattle.commands.specs.declared.Plan.{Plan}
+use Rattle.commands.specs.Plans.{Plan}
 use Rattle.commands.specs.declared.Answer.the-variants.{ReturnsAndSends}
 use Rattle.commands.proofs.Clauses.{calm}
 use Rattle.commands.proofs.Rejects.{calm-said}

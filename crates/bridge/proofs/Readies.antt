@@ -12,10 +12,12 @@ use Rattle.registers.specs.declared.Event.{Event}
 use Rattle.signals.specs.Waveforms.{waveOf}
 use Rattle.signals.specs.Sensed.{senseOf}
 use Rattle.signals.specs.declared.Sensed.{Sensed}
-use Rattle.commands.specs.Plans.{saidOf, received, carriedOut}
+use Rattle.commands.specs.Plans.{plan, saidOf, received, carriedOut}
+use Rattle.commands.specs.Changes.{changed, decided}
+use Rattle.commands.specs.declared.Decision.{Decision}
 use Rattle.commands.specs.Events.{planOf, effectOf}
 use Rattle.commands.specs.Replies.{replyBytes, Settlement, settlement, settlementOf}
-use Rattle.commands.specs.declared.Plan.{Plan}
+use Rattle.commands.specs.Plans.{Plan}
 use Rattle.commands.specs.declared.Settled.{Settled}
 use Rattle.commands.proofs.KeptParts.{Kept}
 use Rattle.commands.proofs.Keeps.{plan-keeps}
@@ -25,6 +27,10 @@ module _ (s : State) (e : Event) (ss : List ℕ) (m : ℕ) (n : InRange s) where
   pub plan-small : {p : Plan} → p ≡ planOf s e → p .state .page .size < width
   unfolding Kept
   plan-small q = subst⁻¹ (λ (p : Plan). p .state .page .size < width) q (plan-keeps s n e .page .size-register)
+
+  -- what is decided and applied is the plan
+  pub planned-as : (d : Decision) {t : State} → t ≡ changed s (d .change) → decided s d ≡ planOf s e → plan t (d .wave) (d .answer) ≡ planOf s e
+  planned-as d q r = ap (λ (t : State). plan t (d .wave) (d .answer)) q ∙ r
 
   abbrev readyOf : Plan → Sensed → Settled → ℕ → Ready
   readyOf p x t k = record { page = p .state .page; wave = p .wave; used = x .used; bytes = x .bytes; state = t .state; reply = t .reply; size = k }

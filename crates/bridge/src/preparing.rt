@@ -46,7 +46,8 @@ pub(crate) fn prepare(s: State, event: Event, samples: &[u8], sampled: usize) ->
     ensures { λ r. ⌜ Prepared s event (now (samples .entry)) sampled r ⌝ }
 {
     let p = commands::plan_event(s, event);
-    let planned = p.state;
+    let change = p.change;
+    let planned = commands::changes::apply(s, change);
     let page = planned.page;
     let wave = p.wave;
     let answer = p.answer;

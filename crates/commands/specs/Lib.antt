@@ -6,6 +6,7 @@ pub mod I2c
 pub mod Spi
 pub mod OneWire
 pub mod Events
+pub mod Changes
 pub mod Replies
 pub mod Promises
 pub mod Edges

@@ -13,9 +13,14 @@ use Rattle.signals.specs.Waveforms.{Wave}
 use Rattle.signals.specs.declared.Waveform.{Waveform}
 use Rattle.signals.specs.declared.Waveform.the-variants as w
 use Rattle.commands.specs.Said.{Said, returned, sent, returnedAndSent, errorAfter, repliesOf}
-pub use Rattle.commands.specs.declared.Plan.{Plan}
 pub use Rattle.commands.specs.declared.Answer.{Answer}
 pub use Rattle.commands.specs.declared.Answer.the-variants.{Silent, Returns, ReturnsTwice, ReturnsAndSends, Checked, Sends, SendsSample, SendsLevel, SendsEprom, SendsSerial, SendsTimings, SendsPacket, SendsLow, ReturnsThenLow}
+
+-- what an event will do: the state but for what depends on samples, the waveform and the answer
+pub record Plan : Type 0 where
+  pub state : State
+  pub wave : Waveform
+  pub answer : Answer
 
 abbrev pub plan : State → Waveform → Answer → Plan
 plan s x a = record { state = s; wave = x; answer = a }

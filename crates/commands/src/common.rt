@@ -1,15 +1,18 @@
 // The common commands.
 ghost use mathlib.Core.Path.{_≡_};
+ghost use Rattle.commands.specs.Changes.{decided};
 ghost use Prim.Native.Nat.{_<_};
 ghost use Rattle.registers.specs.Registers.{withPage};
 ghost use Rattle.commands.specs.Plans.{performs};
 ghost use Rattle.commands.specs.Common.{commonOf, flagged, chosenPage, imageTail, imageMark, imageOf, runCommon};
 use crate::Answer;
 use crate::Bit;
+use crate::Change;
 use crate::CommonCommand;
-use crate::Plan;
+use crate::Decision;
 use crate::bits::with_bit;
 use crate::plans::awaiting;
+use crate::plans::decide;
 use crate::plans::make;
 use crate::plans::performing;
 use crate::plans::returning;
@@ -61,60 +64,13 @@ pub(crate) fn decode(b: u8) -> CommonCommand
     }
 }
 
-// 00: flags but reports and autoload, SPI settings, ERROR and port registers cleared.
-fn reset(mut s: State) -> Plan
-    ensures { λ r. ⌜ r ≡ runCommon s CommonCommand.ResetDevice ⌝ }
-{
-    let f = s.page.flags / 8 % 4 * 8;
-    s.page.flags = f;
-    s.page.error = 0;
-    s.page.ddrb = 0;
-    s.page.portb = 0;
-    s.page.ddrc = 0;
-    s.page.portc = 0;
-    s.page.ddrd = 0;
-    s.page.portd = 0;
-    s.page.config = 0;
-    s.page.configured = false;
-    s.page.size = 0;
-    Plan {
-        state: s,
-        wave: Waveform::Reinit,
-        answer: Answer::Returns(0x00),
-    }
-}
-
 // 01, 02, 03: an interface chosen by its flag, port registers cleared. The caller shows that the flag is one of bits 0 to 2.
-fn choose(mut s: State, flag: u8, wave: Waveform) -> Plan
+fn choose(s: State, flag: u8, wave: Waveform) -> Decision
     requires { ⌜ flag < 8 ⌝ }
-    ensures { λ r. ⌜ r ≡ performs (withPage s (chosenPage (s .page) flag)) wave ⌝ }
+    ensures { λ r. ⌜ decided s r ≡ performs (withPage s (chosenPage (s .page) flag)) wave ⌝ }
 {
     let f = s.page.flags / 8 % 4 * 8 + flag;
-    s.page.flags = f;
-    s.page.ddrb = 0;
-    s.page.portb = 0;
-    s.page.ddrc = 0;
-    s.page.portc = 0;
-    s.page.ddrd = 0;
-    s.page.portd = 0;
-    Plan {
-        state: s,
-        wave,
-        answer: Answer::Returns(0x00),
-    }
-}
-
-// 04: ERROR sent, then zero.
-fn read_error(mut s: State) -> Plan
-    ensures { λ r. ⌜ r ≡ runCommon s CommonCommand.ReadError ⌝ }
-{
-    let e = s.page.error;
-    s.page.error = 0;
-    Plan {
-        state: s,
-        wave: Waveform::Still,
-        answer: Answer::Sends(e),
-    }
+    decide(s, Change::Choose(f), wave, Answer::Returns(0x00))
 }
 
 // A byte of the image's tail: FF without SPI.
@@ -132,7 +88,7 @@ fn image_mark(configured: bool) -> u8
 }
 
 // The ten bytes that 05 stores.
-fn image(p: Page) -> [u8; 10]
+pub(crate) fn image(p: Page) -> [u8; 10]
     ensures { λ r. ⌜ r ≡ imageOf p ⌝ }
 {
     let a = image_tail(p.flags, p.config);
@@ -152,38 +108,20 @@ fn image(p: Page) -> [u8; 10]
     ]
 }
 
-// 05: the image stored.
-fn save(mut s: State) -> Plan
-    ensures { λ r. ⌜ r ≡ runCommon s CommonCommand.SaveToEprom ⌝ }
-{
-    let p = s.page;
-    let bytes = image(p);
-    let mut h = s.shared;
-    h.eprom = bytes;
-    s.shared = h;
-    Plan {
-        state: s,
-        wave: Waveform::Still,
-        answer: Answer::Returns(0x00),
-    }
-}
-
 // 07 to 0A: a flag set or cleared, 00 returned.
-fn set_flag(mut s: State, bit: Bit, on: bool) -> Plan
-    ensures { λ r. ⌜ r ≡ flagged s bit on ⌝ }
+fn set_flag(s: State, bit: Bit, on: bool) -> Decision
+    ensures { λ r. ⌜ decided s r ≡ flagged s bit on ⌝ }
 {
     let f = with_bit(bit, on, s.page.flags);
-    s.page.flags = f;
-    returning(s, 0x00)
+    decide(s, Change::Flags(f), Waveform::Still, Answer::Returns(0x00))
 }
 
 // 1C: PD4 latched, the IOG cycles waited, PD3 latched.
-fn set_iog(mut s: State) -> Plan
-    ensures { λ r. ⌜ r ≡ runCommon s CommonCommand.SetIog ⌝ }
+fn set_iog(s: State) -> Decision
+    ensures { λ r. ⌜ decided s r ≡ runCommon s CommonCommand.SetIog ⌝ }
 {
     let first = with_bit(Bit::Four, true, s.page.portd);
     let last = with_bit(Bit::Three, true, first);
-    s.page.portd = last;
     let wait = s.shared.cycles;
     let wave = Waveform::PortPulse {
         line: wire::LINE_PORT_D,
@@ -192,20 +130,35 @@ fn set_iog(mut s: State) -> Plan
         wait,
         last,
     };
-    performing(s, wave)
+    decide(s, Change::Latch(last), wave, Answer::Returns(0x00))
 }
 
 // What a common command does.
-pub(crate) fn run(s: State, c: CommonCommand) -> Plan
-    ensures { λ r. ⌜ r ≡ runCommon s c ⌝ }
+pub(crate) fn run(s: State, c: CommonCommand) -> Decision
+    ensures { λ r. ⌜ decided s r ≡ runCommon s c ⌝ }
 {
     match c {
-        CommonCommand::ResetDevice => reset(s),
+        CommonCommand::ResetDevice => decide(
+            s,
+            Change::Reset,
+            Waveform::Reinit,
+            Answer::Returns(0x00),
+        ),
         CommonCommand::ChooseI2c => choose(s, 1, Waveform::ReinitHigh(wire::LINE_CS)),
         CommonCommand::ChooseSpi => choose(s, 2, Waveform::ReinitHigh(wire::LINE_SS)),
         CommonCommand::ChooseWire => choose(s, 4, Waveform::Reinit),
-        CommonCommand::ReadError => read_error(s),
-        CommonCommand::SaveToEprom => save(s),
+        CommonCommand::ReadError => decide(
+            s,
+            Change::ClearError,
+            Waveform::Still,
+            Answer::Sends(s.page.error),
+        ),
+        CommonCommand::SaveToEprom => decide(
+            s,
+            Change::Save,
+            Waveform::Still,
+            Answer::Returns(0x00),
+        ),
         CommonCommand::ReadFromEprom => sending(s, Answer::SendsEprom),
         CommonCommand::SetReports(on) => set_flag(s, Bit::Three, on),
         CommonCommand::SetAutoload(on) => set_flag(s, Bit::Four, on),

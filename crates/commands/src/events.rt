@@ -1,5 +1,6 @@
 // What a byte does, by what is waited for.
 ghost use mathlib.Core.Path.{_≡_};
+ghost use Rattle.commands.specs.Changes.{decided};
 ghost use Prim.Native.Nat.{_≤_, _<_};
 ghost use Rattle.packet.specs.Packet.{width};
 ghost use Rattle.registers.specs.Registers.{settled};
@@ -7,13 +8,14 @@ ghost use Rattle.registers.specs.Ranges.{InRange};
 ghost use Rattle.commands.specs.Plans.{plan};
 ghost use Rattle.commands.specs.Events.{commandPlan, portPlan, cyclesPlan, operandPlan, timingsPlan, bytePlan};
 use crate::Answer;
-use crate::Plan;
+use crate::Change;
+use crate::Decision;
 use crate::common;
 use crate::extended;
 use crate::i2c;
 use crate::one_wire;
 use crate::packets;
-use crate::plans::hold;
+use crate::plans::decide;
 use crate::plans::returning;
 use crate::plans::settling;
 use crate::plans::storing;
@@ -25,9 +27,9 @@ use registers::Wait;
 use signals::Waveform;
 
 // A byte between commands.
-fn command(s: State, b: u8) -> Plan
+fn command(s: State, b: u8) -> Decision
     requires { ⌜ s .page .size < width ⌝ }
-    ensures { λ r. ⌜ r ≡ commandPlan s b ⌝ }
+    ensures { λ r. ⌜ decided s r ≡ commandPlan s b ⌝ }
 {
     let f = s.page.flags;
     if b < 0x20 {
@@ -52,8 +54,8 @@ fn command(s: State, b: u8) -> Plan
 }
 
 // An operand written to a port register: protected bits keep their old bits.
-fn write_port(s: State, r: PortRegister, x: u8) -> Plan
-    ensures { λ p. ⌜ p ≡ portPlan s r x ⌝ }
+fn write_port(s: State, r: PortRegister, x: u8) -> Decision
+    ensures { λ p. ⌜ decided s p ≡ portPlan s r x ⌝ }
 {
     let page = s.page;
     let value = registers::ports::protect(r, registers::ports::port_register(page, r), x);
@@ -68,88 +70,59 @@ fn write_port(s: State, r: PortRegister, x: u8) -> Plan
     )
 }
 
-// An operand that becomes the IOG count.
-fn write_cycles(s: State, x: u8) -> Plan
-    ensures { λ p. ⌜ p ≡ cyclesPlan s x ⌝ }
-{
-    let page = s.page;
-    let mut shared = s.shared;
-    shared.cycles = x;
-    Plan {
-        state: State {
-            page,
-            shared,
-            wait: Wait::Nothing,
-            held: [0; registers::HELD],
-        },
-        wave: Waveform::Still,
-        answer: Answer::Silent,
-    }
-}
-
-// An operand that becomes CONFIG_SPI.
-fn write_config(s: State, x: u8) -> Plan
-    ensures { λ p. ⌜ p ≡ operandPlan s Operand.ToConfig x ⌝ }
-{
-    let mut page = s.page;
-    page.config = x % 8;
-    page.configured = true;
-    settling(s, page, Waveform::Still, Answer::Returns(0x00))
-}
-
-// An operand that becomes the size register.
-fn write_size(s: State, x: u8) -> Plan
-    ensures { λ p. ⌜ p ≡ operandPlan s Operand.ToSize x ⌝ }
-{
-    let mut page = s.page;
-    page.size = packet::size_register(x);
-    settling(s, page, Waveform::Still, Answer::Returns(0x00))
-}
-
-// An operand that goes out on the lines, with what is answered.
-fn write_line(s: State, wave: Waveform, answer: Answer) -> Plan
-    ensures { λ p. ⌜ p ≡ plan (settled s (s .page)) wave answer ⌝ }
-{
-    let page = s.page;
-    settling(s, page, wave, answer)
-}
-
 // The operand that was waited for.
-fn operand(s: State, o: Operand, x: u8) -> Plan
-    ensures { λ p. ⌜ p ≡ operandPlan s o x ⌝ }
+fn operand(s: State, o: Operand, x: u8) -> Decision
+    ensures { λ p. ⌜ decided s p ≡ operandPlan s o x ⌝ }
 {
     match o {
         Operand::ToPort(r) => write_port(s, r, x),
-        Operand::ToCycles => write_cycles(s, x),
-        Operand::ToI2c => write_line(s, Waveform::WriteI2c(x), Answer::Checked(0x20)),
-        Operand::ToConfig => write_config(s, x),
-        Operand::ToSize => write_size(s, x),
-        Operand::ToWire => write_line(s, Waveform::WriteWire(x), Answer::Returns(0x00)),
-        Operand::ToWireBit => write_line(s, Waveform::WriteWireBit(x), Answer::Returns(0x00)),
-        Operand::ToWireStrong => write_line(s, Waveform::WriteWireStrong(x), Answer::Returns(0x00)),
+        Operand::ToCycles => decide(s, Change::Cycles(x), Waveform::Still, Answer::Silent),
+        Operand::ToI2c => settling(s, Waveform::WriteI2c(x), Answer::Checked(0x20)),
+        Operand::ToConfig => decide(
+            s,
+            Change::Config(x % 8),
+            Waveform::Still,
+            Answer::Returns(0x00),
+        ),
+        Operand::ToSize => decide(
+            s,
+            Change::Size(packet::size_register(x)),
+            Waveform::Still,
+            Answer::Returns(0x00),
+        ),
+        Operand::ToWire => settling(s, Waveform::WriteWire(x), Answer::Returns(0x00)),
+        Operand::ToWireBit => settling(s, Waveform::WriteWireBit(x), Answer::Returns(0x00)),
+        Operand::ToWireStrong => settling(s, Waveform::WriteWireStrong(x), Answer::Returns(0x00)),
     }
 }
 
 // A timing byte, with so many to come, itself among them; all are stored at the last.
-fn timing_byte(s: State, left: u8, x: u8) -> Plan
+fn timing_byte(s: State, left: u8, x: u8) -> Decision
     requires { ⌜ (1 ≤ left) × (left ≤ 9) ⌝ }
-    ensures { λ p. ⌜ p ≡ timingsPlan s left x ⌝ }
+    ensures { λ p. ⌜ decided s p ≡ timingsPlan s left x ⌝ }
 {
-    let i = registers::TIMINGS - left as usize;
-    let mut held = s.held;
-    held[i] = x;
+    let at = 9 - left;
     if left == 1 {
-        let mut page = s.page;
-        page.timings = held;
-        return settling(s, page, Waveform::Still, Answer::Returns(0x00));
+        return decide(
+            s,
+            Change::LoadTimings { at, byte: x },
+            Waveform::Still,
+            Answer::Returns(0x00),
+        );
     }
-    hold(s, Wait::Timings { left: left - 1 }, held)
+    let wait = Wait::Timings { left: left - 1 };
+    decide(
+        s,
+        Change::Hold { wait, at, byte: x },
+        Waveform::Still,
+        Answer::Silent,
+    )
 }
 
 // A byte, by what is waited for. The caller shows that the state breaks no range.
-pub(crate) fn byte(s: State, x: u8) -> Plan
+pub(crate) fn byte(s: State, x: u8) -> Decision
     requires { ⌜ InRange s ⌝ }
-    ensures { λ p. ⌜ p ≡ bytePlan s (s .wait) x ⌝ }
+    ensures { λ p. ⌜ decided s p ≡ bytePlan s (s .wait) x ⌝ }
 {
     let w = s.wait;
     match w {

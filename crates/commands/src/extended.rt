@@ -1,10 +1,12 @@
 // The extended commands, after 1D.
 ghost use mathlib.Core.Path.{_≡_};
+ghost use Rattle.commands.specs.Changes.{decided};
 ghost use Rattle.commands.specs.Extended.{extendedOf, runExtended};
 use crate::Answer;
 use crate::Bit;
+use crate::Change;
+use crate::Decision;
 use crate::ExtendedCommand;
-use crate::Plan;
 use crate::bits::with_bit;
 use crate::plans::awaiting;
 use crate::plans::returning;
@@ -49,8 +51,8 @@ pub(crate) fn decode(b: u8) -> ExtendedCommand
 }
 
 // 01, 02, 03, 08, 09: a bit of a latch to a level, a wait, and back.
-fn pulse(s: State, latch: PortRegister, bit: Bit, level: bool, unit: u8, wait: u8) -> Plan
-    ensures { λ r. ⌜ r ≡ runExtended s (ExtendedCommand.Pulse latch bit level unit wait) ⌝ }
+fn pulse(s: State, latch: PortRegister, bit: Bit, level: bool, unit: u8, wait: u8) -> Decision
+    ensures { λ r. ⌜ decided s r ≡ runExtended s (ExtendedCommand.Pulse latch bit level unit wait) ⌝ }
 {
     let page = s.page;
     let first = with_bit(bit, level, port_register(page, latch));
@@ -67,8 +69,8 @@ fn pulse(s: State, latch: PortRegister, bit: Bit, level: bool, unit: u8, wait: u
 }
 
 // 0A to 0D: a bit of a port register set or cleared, with one action.
-fn set_bit(s: State, r: PortRegister, bit: Bit, on: bool) -> Plan
-    ensures { λ p. ⌜ p ≡ runExtended s (ExtendedCommand.SetBit r bit on) ⌝ }
+fn set_bit(s: State, r: PortRegister, bit: Bit, on: bool) -> Decision
+    ensures { λ p. ⌜ decided s p ≡ runExtended s (ExtendedCommand.SetBit r bit on) ⌝ }
 {
     let page = s.page;
     let value = with_bit(bit, on, port_register(page, r));
@@ -79,17 +81,16 @@ fn set_bit(s: State, r: PortRegister, bit: Bit, on: bool) -> Plan
 }
 
 // 0F: the IOG count sent, and nothing waited for.
-fn read_cycles(s: State) -> Plan
-    ensures { λ r. ⌜ r ≡ runExtended s ExtendedCommand.ReadCycles ⌝ }
+fn read_cycles(s: State) -> Decision
+    ensures { λ r. ⌜ decided s r ≡ runExtended s ExtendedCommand.ReadCycles ⌝ }
 {
-    let page = s.page;
     let answer = Answer::Sends(s.shared.cycles);
-    settling(s, page, Waveform::Still, answer)
+    settling(s, Waveform::Still, answer)
 }
 
 // What an extended command does.
-pub(crate) fn run(s: State, c: ExtendedCommand) -> Plan
-    ensures { λ r. ⌜ r ≡ runExtended s c ⌝ }
+pub(crate) fn run(s: State, c: ExtendedCommand) -> Decision
+    ensures { λ r. ⌜ decided s r ≡ runExtended s c ⌝ }
 {
     match c {
         ExtendedCommand::Pulse(r, bit, level, unit, n) => pulse(s, r, bit, level, unit, n),

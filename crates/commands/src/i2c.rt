@@ -1,9 +1,11 @@
 // The commands of I2C.
 ghost use mathlib.Core.Path.{_≡_};
+ghost use Rattle.commands.specs.Changes.{decided};
 ghost use Rattle.commands.specs.I2c.{i2cOf, runI2c};
 use crate::Answer;
+use crate::Change;
+use crate::Decision;
 use crate::I2cCommand;
-use crate::Plan;
 use crate::plans::awaiting;
 use crate::plans::make;
 use crate::plans::performing;
@@ -31,8 +33,8 @@ pub(crate) fn decode(b: u8) -> I2cCommand
 }
 
 // What an I2C command does.
-pub(crate) fn run(s: State, c: I2cCommand) -> Plan
-    ensures { λ r. ⌜ r ≡ runI2c s c ⌝ }
+pub(crate) fn run(s: State, c: I2cCommand) -> Decision
+    ensures { λ r. ⌜ decided s r ≡ runI2c s c ⌝ }
 {
     match c {
         I2cCommand::SendStart => performing(s, Waveform::Start),

@@ -1,9 +1,11 @@
 // The commands: what an event does to the registers, which waveform it makes, and what it answers.
 ghost use mathlib.Core.Path.{_≡_};
+ghost use Rattle.commands.specs.Changes.{decided};
 ghost use Rattle.registers.specs.Ranges.{InRange};
 ghost use Rattle.commands.specs.Events.{planOf};
 
 mod bits;
+pub mod changes;
 mod common;
 mod events;
 mod extended;
@@ -18,6 +20,7 @@ mod spi;
 use registers::Event;
 use registers::PortRegister;
 use registers::State;
+use registers::Wait;
 use signals::Waveform;
 
 // What an event answers, by name; what depends on samples or on the packet register is filled in when it is written.
@@ -38,9 +41,29 @@ pub enum Answer {
     ReturnsThenLow,
 }
 
-// What an event will do: the state but for what depends on samples, the waveform and the answer.
-pub struct Plan {
-    pub state: State,
+// What an event changes of the state, but for what depends on samples; `changed` in the definitions gives each its meaning.
+pub enum Change {
+    Nothing,
+    Reset,
+    Choose(u8),
+    ClearError,
+    Save,
+    Flags(u8),
+    Latch(u8),
+    Await(Wait),
+    Settle,
+    Store(PortRegister, u8),
+    Cycles(u8),
+    Config(u8),
+    Size(u8),
+    Hold { wait: Wait, at: u8, byte: u8 },
+    LoadPacket { at: u8, byte: u8 },
+    LoadTimings { at: u8, byte: u8 },
+}
+
+// What an event will do, before any sample is read: the change, the waveform and the answer.
+pub struct Decision {
+    pub change: Change,
     pub wave: Waveform,
     pub answer: Answer,
 }
@@ -145,9 +168,9 @@ pub enum WireCommand {
 }
 
 // What an event will do, before any sample is read. The caller shows that the state breaks no range.
-pub fn plan_event(s: State, e: Event) -> Plan
+pub fn plan_event(s: State, e: Event) -> Decision
     requires { ⌜ InRange s ⌝ }
-    ensures { λ p. ⌜ p ≡ planOf s e ⌝ }
+    ensures { λ p. ⌜ decided s p ≡ planOf s e ⌝ }
 {
     match e {
         Event::Byte(x) => events::byte(s, x),

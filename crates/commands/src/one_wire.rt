@@ -1,8 +1,10 @@
 // The commands of 1-Wire.
 ghost use mathlib.Core.Path.{_≡_};
+ghost use Rattle.commands.specs.Changes.{decided};
 ghost use Rattle.commands.specs.OneWire.{wireOf, runWire};
 use crate::Answer;
-use crate::Plan;
+use crate::Change;
+use crate::Decision;
 use crate::WireCommand;
 use crate::plans::awaiting;
 use crate::plans::make;
@@ -41,8 +43,8 @@ pub(crate) fn decode(b: u8) -> WireCommand
 }
 
 // What a 1-Wire command does.
-pub(crate) fn run(s: State, c: WireCommand) -> Plan
-    ensures { λ r. ⌜ r ≡ runWire s c ⌝ }
+pub(crate) fn run(s: State, c: WireCommand) -> Decision
+    ensures { λ r. ⌜ decided s r ≡ runWire s c ⌝ }
 {
     match c {
         WireCommand::SendReset => make(s, Waveform::ResetWire, Answer::Checked(0x60)),

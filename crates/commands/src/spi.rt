@@ -1,12 +1,14 @@
 // The commands of SPI.
 ghost use mathlib.Core.Path.{_≡_};
+ghost use Rattle.commands.specs.Changes.{decided};
 ghost use mathlib.Core.Bool.{cond};
 ghost use Prim.Native.Nat.{_<_};
 ghost use Rattle.packet.specs.Packet.{width};
 ghost use Rattle.commands.specs.Plans.{plan, returns};
 ghost use Rattle.commands.specs.Spi.{spiOf, runSpi};
 use crate::Answer;
-use crate::Plan;
+use crate::Change;
+use crate::Decision;
 use crate::SpiCommand;
 use crate::plans::awaiting;
 use crate::plans::make;
@@ -41,8 +43,8 @@ pub(crate) fn decode(b: u8) -> SpiCommand
 }
 
 // 41: CONFIG_SPI sent; unconfigured, 40 returned and sent once.
-fn read_config(s: State) -> Plan
-    ensures { λ r. ⌜ r ≡ runSpi s SpiCommand.ReadConfig ⌝ }
+fn read_config(s: State) -> Decision
+    ensures { λ r. ⌜ decided s r ≡ runSpi s SpiCommand.ReadConfig ⌝ }
 {
     let config = s.page.config;
     if s.page.configured {
@@ -52,8 +54,8 @@ fn read_config(s: State) -> Plan
 }
 
 // 44, 4C: so many packet bytes waited for; unconfigured, 40.
-fn load_packet(s: State, exchange: bool) -> Plan
-    ensures { λ r. ⌜ r ≡ runSpi s (SpiCommand.LoadPacket exchange) ⌝ }
+fn load_packet(s: State, exchange: bool) -> Decision
+    ensures { λ r. ⌜ decided s r ≡ runSpi s (SpiCommand.LoadPacket exchange) ⌝ }
 {
     let left = s.page.size / 8 + 1;
     if s.page.configured {
@@ -63,8 +65,8 @@ fn load_packet(s: State, exchange: bool) -> Plan
 }
 
 // 46, 4B: an exchange with its answer; unconfigured, 40.
-fn exchange(s: State, answer: Answer) -> Plan
-    ensures { λ r. ⌜ r ≡ cond (s .page .configured) (plan s Waveform.Exchange answer) (returns s 0x40) ⌝ }
+fn exchange(s: State, answer: Answer) -> Decision
+    ensures { λ r. ⌜ decided s r ≡ cond (s .page .configured) (plan s Waveform.Exchange answer) (returns s 0x40) ⌝ }
 {
     if s.page.configured {
         return make(s, Waveform::Exchange, answer);
@@ -73,9 +75,9 @@ fn exchange(s: State, answer: Answer) -> Plan
 }
 
 // What an SPI command does. The caller shows that the size register is in range.
-pub(crate) fn run(s: State, c: SpiCommand) -> Plan
+pub(crate) fn run(s: State, c: SpiCommand) -> Decision
     requires { ⌜ s .page .size < width ⌝ }
-    ensures { λ r. ⌜ r ≡ runSpi s c ⌝ }
+    ensures { λ r. ⌜ decided s r ≡ runSpi s c ⌝ }
 {
     match c {
         SpiCommand::LoadConfig => awaiting(s, Wait::One(Operand::ToConfig)),

@@ -13,18 +13,18 @@ pub const TIMINGS: usize = 9;
 pub const HELD: usize = 9;
 
 // The registers that each bench will have for itself: COMMON_FLAGS, ERROR, the port registers, CONFIG_SPI, the configured
-// mark, PAKET_SIZE, the packet register and the timings.
+// mark, PAKET_SIZE, the packet register and the timings. Their order here says nothing; it is the one that compiles best.
 pub struct Page {
-    pub flags: u8,
-    pub error: u8,
     pub ddrb: u8,
     pub portb: u8,
     pub ddrc: u8,
     pub portc: u8,
     pub ddrd: u8,
     pub portd: u8,
-    pub config: u8,
     pub configured: bool,
+    pub flags: u8,
+    pub error: u8,
+    pub config: u8,
     pub size: u8,
     pub packet: [u8; packet::BYTES],
     pub timings: [u8; TIMINGS],

@@ -11,9 +11,8 @@ timing-byte-spec =
     tie.close
     (tie.spec
     (λ c. search needs)
+    (λ c κs. search needs)
+    (λ c. c .decide .ensures ∙ chosen _ _ _ (eq-eqb _ _ (c .before .if1 .taken)))
     (λ c. search needs)
     (λ c κs. search needs)
-    (λ c. c .settling .ensures ∙ chosen _ _ _ (eq-eqb _ _ (c .before .before .if1 .taken)))
-    (λ c. search needs)
-    (λ c κs. search needs)
-    (λ c. c .hold .ensures ∙ chosen _ _ _ (ne-eqb _ _ (c .before .if1 .left))))
+    (λ c. c .decide2 .ensures ∙ chosen _ _ _ (ne-eqb _ _ (c .before .if1 .left))))

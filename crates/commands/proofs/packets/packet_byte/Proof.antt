@@ -1,6 +1,7 @@
 -- At the last byte the register is loaded, before it one more is held.
 use borrow.Author.Needs.{needs}
-use mathlib.Core.Path.{_∙_}
+use mathlib.Core.Path.{_∙_, ap}
+use mathlib.Core.Bool.{Bool}
 use borrow.Author.Tests.{eq-eqb, ne-eqb}
 use Rattle.registers.proofs.InRange.{most-left}
 use Rattle.commands.proofs.Choices.{chosen}
@@ -13,10 +14,10 @@ packet-byte-spec =
     (tie.spec
     (λ c. search needs)
     (λ c. search needs)
-    (λ c. search needs)
+    (λ c κs. search needs)
+    (λ c. rw (← most-left (c .before .before .before .before .args .s .page .size), c .before .if2 .taken) (c .decide .ensures ∙ chosen _ _ _ (eq-eqb _ _ (c .before .before .if1 .taken))))
+    (λ c κs. search needs)
+    (λ c. rw (← most-left (c .before .before .before .before .args .s .page .size), c .before .if2 .left) (c .decide2 .ensures ∙ chosen _ _ _ (eq-eqb _ _ (c .before .before .if1 .taken))))
     (λ c. search needs)
     (λ c κs. search needs)
-    (λ c. rw (← most-left (c .before .before .before .before .args .s .page .size)) (c .load .ensures ∙ chosen _ _ _ (eq-eqb _ _ (c .before .if1 .taken))))
-    (λ c. search needs)
-    (λ c κs. search needs)
-    (λ c. rw (← most-left (c .before .before .before .before .args .s .page .size)) (c .hold .ensures ∙ chosen _ _ _ (ne-eqb _ _ (c .before .if1 .left)))))
+    (λ c. rw (← most-left (c .before .before .before .args .s .page .size)) (c .decide3 .ensures ∙ chosen _ _ _ (ne-eqb _ _ (c .before .if1 .left)))))
