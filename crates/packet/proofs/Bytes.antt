@@ -1,8 +1,9 @@
 -- A register and its bits determine each other, at any width. Assumes nothing.
 use mathlib.Core.Path.{_≡_, refl, sym, ap, _∙_}
-use mathlib.Core.List.{List, [], _∷_, _++_, append-assoc, reverse, reverse-cons}
-use Prim.Native.Nat.{ℕ, zero, suc, _+_, _-_, _*_, _/_, _%_, _<_}
-use native.Mathlib.Nat.{div-div-eq-div-mul}
+use mathlib.Core.List.{List, [], _∷_, _++_, append-assoc}
+use Prim.Native.Nat.{ℕ, zero, suc, _+_, _-_, _*_, _/_, _%_, _^_, _≤_, _<_}
+use native.Mathlib.Nat.{zero-add, add-mul, mul-assoc, pow-succ', mod-one, mod-eq-of-lt}
+use native.Mathlib.Decide.{decLe}
 use native.Mathlib.Omega.{arith}
 use mir.Val.{Val}
 use mir.Syntax.{w8}
@@ -10,8 +11,9 @@ use denote.Shadow.{shadow}
 use denote.Laws.{Is}
 use denote.Plain.{UInt}
 use denote.Array.{Array, each}
-use lib.ListN.{length, take, drop, length-drop, take-append-drop}
-use lib.Seq.{length-take-le}
+use lib.ListN.{length, getD, take, drop, length-drop, take-append-drop, drop-of-length-le}
+use lib.Pow.{mod-pow-add}
+use lib.Seq.{length-take-le, drop-cons}
 use Rattle.packet.specs.Register.{byteBits, bits, number, register, zeros}
 
 -- every element is 0 or 1
@@ -37,10 +39,6 @@ pub bits-zeros : (n : ℕ) → Bits (zeros n)
 bits-zeros zero = tt
 bits-zeros (suc n) = (omega arith, bits-zeros n)
 
-pub bits-reverse : (xs : List ℕ) → Bits xs → Bits (reverse xs)
-bits-reverse [] s = tt
-bits-reverse (x ∷ xs) s = rw reverse-cons (bits-join (reverse xs) (x ∷ []) (bits-reverse xs (s .1)) (s .0, tt))
-
 pub bits-small : (r : List ℕ) → Bits (bits r)
 unfolding bits byteBits
 bits-small [] = tt
@@ -65,19 +63,59 @@ length-bits (b ∷ l) = omega (arith, length-bits l)
 
 -- FROM A BYTE TO ITS BITS AND BACK
 
-first-half : (x : ℕ) → x < 256 → 0 * 2 + x / 128 % 2 ≡ x / 128
-first-half x h = omega arith
+pub byte-at : (b j : ℕ) → j < 8 → getD (byteBits b) j 0 ≡ b / 2 ^ (7 - j) % 2
+unfolding byteBits
+byte-at b zero h = refl
+byte-at b (suc zero) h = refl
+byte-at b (suc (suc zero)) h = refl
+byte-at b (suc (suc (suc zero))) h = refl
+byte-at b (suc (suc (suc (suc zero)))) h = refl
+byte-at b (suc (suc (suc (suc (suc zero))))) h = refl
+byte-at b (suc (suc (suc (suc (suc (suc zero)))))) h = refl
+byte-at b (suc (suc (suc (suc (suc (suc (suc zero))))))) h = omega arith
+byte-at b (suc (suc (suc (suc (suc (suc (suc (suc j)))))))) h = absurd (omega arith)
 
-half : (x : ℕ) → x / 2 * 2 + x % 2 ≡ x
-half x = omega arith
+-- a number's bits add to what stands before them, moved up past them
+number-weight : (v : ℕ) (bs : List ℕ) → number v bs ≡ v * 2 ^ length bs + number 0 bs
+unfolding number
+number-weight v [] = omega arith
+number-weight v (b ∷ bs) =
+    let w = 2 ^ length bs in
+    let first : (v * 2 + b) * w ≡ v * (2 * w) + b * w = add-mul (v * 2) b w ∙ ap (λ (x : ℕ). x + b * w) (mul-assoc v 2 w) in
+    let second : (0 * 2 + b) * w ≡ b * w = ap (λ (x : ℕ). x * w) (zero-add b) in
+    let weight : v * 2 ^ suc (length bs) ≡ v * (2 * w) = ap (λ (x : ℕ). v * x) (pow-succ' 2 (length bs)) in
+    omega (arith, number-weight (v * 2 + b) bs, number-weight (0 * 2 + b) bs)
 
--- the quotient by twice a weight and the bit of that weight give the quotient by the weight
-halves : (x w : ℕ) → x / (w * 2) * 2 + x / w % 2 ≡ x / w
-halves x w = ap (λ (q : ℕ). q * 2 + x / w % 2) (sym (div-div-eq-div-mul x w 2)) ∙ half (x / w)
+low-number : (b m : ℕ) → m ≤ 8 → number 0 (drop (8 - m) (byteBits b)) ≡ b % 2 ^ m
+unfolding byteBits number
+low-number b zero h = sym (mod-one b)
+low-number b (suc m) h =
+    let j = 7 - m in
+    let ys = drop (8 - m) (byteBits b) in
+    let first : 8 - suc m ≡ j = omega arith in
+    let next : suc j ≡ 8 - m = omega arith in
+    let place : 7 - j ≡ m = omega arith in
+    let one : 1 + m ≡ suc m = omega arith in
+    let many : length ys ≡ m = omega (arith, length-drop (8 - m) (byteBits b), length-byte b) in
+    let cut : drop (8 - suc m) (byteBits b) ≡ b / 2 ^ m % 2 ∷ ys =
+    rw first (drop-cons (byteBits b) j 0 (omega (arith, length-byte b)) ∙ rw (byte-at b j (omega arith), place, next)) in
+    ap (number 0) cut
+    ∙ number-weight (0 * 2 + b / 2 ^ m % 2) ys
+    ∙ rw (many, zero-add, low-number b m (omega arith)) (sym (ap (λ (k : ℕ). b % 2 ^ k) (sym one) ∙ mod-pow-add b 1 m))
+
+-- the bits of a byte that are left below its first d
+pub number-low : (b d : ℕ) → number 0 (drop d (byteBits b)) ≡ b % 2 ^ (8 - d)
+unfolding number
+number-low b d = go (decLe d 8)
+  where
+    go : Dec (d ≤ 8) → number 0 (drop d (byteBits b)) ≡ b % 2 ^ (8 - d)
+    go (yes h) = let e : d ≡ 8 - (8 - d) = omega arith in ap (λ (k : ℕ). number 0 (drop k (byteBits b))) e ∙ low-number b (8 - d) (omega arith)
+    go (no h) =
+        let e : 8 - d ≡ 0 = omega arith in
+        rw (e, drop-of-length-le (byteBits b) {i = d} (omega (arith, length-byte b))) (sym (mod-one b))
 
 number-bits : (x : ℕ) → x < 256 → number 0 (byteBits x) ≡ x
-unfolding byteBits number
-number-bits x h = rw (first-half x h, halves x 64, halves x 32, halves x 16, halves x 8, halves x 4, halves x 2) (half x)
+number-bits x h = number-low x 0 ∙ mod-eq-of-lt h
 
 -- a value of the type [u8; n] is the register of its own bits
 register-each : (xs : List ℕ) (us : List Val) → shadow (each ℕ (UInt w8 .own) xs us) → register (length xs) (bits xs) ≡ xs

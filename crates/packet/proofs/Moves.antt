@@ -1,18 +1,17 @@
--- Moves of a register by one place, one after another: what clearing, aligning and receiving are made of, at any width and
--- any number of bits. Assumes nothing.
+-- Moves of a register by one place, one after another: what aligning is made of, at any width and any number of places.
+-- Assumes nothing.
 use mathlib.Core.Path.{_≡_, refl, sym, ap, _∙_}
-use mathlib.Core.Bool.{Bool, true, false}
 use mathlib.Core.List.{List, [], _∷_, _++_, append-assoc, append-nil}
 use Prim.Native.Nat.{ℕ, zero, suc, _+_, _-_, _*_, _/_, _%_, _≤_, _<_}
-use native.Mathlib.Nat.{le-refl, sub-zero, zero-sub, suc-sub-suc, not-suc-le-zero}
-use native.Mathlib.Numerals.{sub-one, one-add, add-one}
+use native.Mathlib.Nat.{le-refl, not-suc-le-zero}
+use native.Mathlib.Numerals.{sub-one, one-add}
 use native.Mathlib.Omega.{arith}
 use lib.ListN.{length, getD, take, drop, set, length-append, length-drop, length-set, length-replicate}
-use lib.Seq.{take-length, drop-length, take-set-le, drop-set-lt, drop-cons, drop-drop, take-suc, getD-set-same, drop-append-le}
-use Rattle.packet.specs.Register.{byteBits, bits, number, register, zeros}
-use Rattle.packet.specs.Packet.{kept, movedUp, order, received, takenIn}
-use Rattle.packet.proofs.Bytes.{Bits, bits-join, bits-drop, bits-small, bits-zeros, bits-reverse, bits-append, bits-register, length-bits, length-register}
-use Rattle.packet.proofs.Places.{length-order}
+use lib.Seq.{take-length, drop-length, take-set-le, drop-drop, take-suc, drop-append-le}
+use Rattle.packet.specs.Register.{byteBits, bits, register, zeros}
+use Rattle.packet.specs.Packet.{movedUp, takenIn}
+use Rattle.packet.proofs.Bytes.{Bits, bits-join, bits-drop, bits-small, bits-zeros, bits-append, bits-register, length-bits, length-register}
+use Rattle.packet.proofs.Filled.{drop-set}
 
 -- ONE MOVE, byte by byte
 
@@ -44,8 +43,7 @@ move-bits (suc k) l c hk h =
     let x = b % 128 * 2 + c in
     let t = b / 128 % 2 in
     let X = bits (take k l) in
-    let e : drop k (set l k x) ≡ x ∷ drop (suc k) l =
-    drop-cons (set l k x) k 0 (rw length-set hk) ∙ rw (getD-set-same l k x 0 hk, drop-set-lt (suc k) l k x (le-refl (suc k))) in
+    let e : drop k (set l k x) ≡ x ∷ drop (suc k) l = drop-set l k x hk in
     let n : 1 ≤ length (X ++ (t ∷ [])) = omega (arith, length-append X (t ∷ [])) in
     move-bits k (set l k x) t (omega (arith, length-set l k x)) (omega arith)
     ∙ rw (take-set-le k l k x (le-refl k), e, ← append-assoc, ← drop-append-le 1 (X ++ (t ∷ [])) (byteBits x) n, append-assoc X (t ∷ []) (byteBits x), byte-up b c h, ← append-assoc X (byteBits b) (c ∷ []), take-suc l k 0 hk, bits-append, append-nil)
@@ -60,10 +58,6 @@ move-whole n l c e h = move-bits n l c (omega arith) h ∙ rw (← e, take-lengt
 abbrev pub takenAll : ℕ → List ℕ → List ℕ → List ℕ
 takenAll k r [] = r
 takenAll k r (x ∷ xs) = takenAll k (takenIn k x r) xs
-
--- a turn of a loop that takes the bits of a list in
-pub taken-turn : (k : ℕ) (r xs : List ℕ) (i : ℕ) → i < length xs → takenAll k (takenIn k (getD xs i 0) r) (drop (i + 1) xs) ≡ takenAll k r (drop i xs)
-taken-turn k r xs i h = rw (add-one, drop-cons xs i 0)
 
 pub taken-zero : (k : ℕ) (r : List ℕ) (n : ℕ) → 0 < n → takenAll k (takenIn k 0 r) (zeros (n - 1)) ≡ takenAll k r (zeros n)
 taken-zero k r zero h = absurd (not-suc-le-zero h)
@@ -83,53 +77,7 @@ taken-all k r (x ∷ xs) l e s =
     ∙ ap (register k)
     (rw (← drop-append-le 1 X xs (omega arith), append-assoc) (drop-drop (length xs) 1 Y ∙ ap (λ (m : ℕ). drop m Y) (one-add (length xs))))
 
-drop-zeros : (n k : ℕ) → drop k (zeros n) ≡ zeros (n - k)
-drop-zeros n zero = rw sub-zero
-drop-zeros zero (suc k) = rw zero-sub
-drop-zeros (suc n) (suc k) = rw suc-sub-suc (drop-zeros n k)
-
--- into a register of zeros
-bits-of-zeros : (k : ℕ) → bits (zeros k) ≡ zeros (8 * k)
-unfolding bits byteBits
-bits-of-zeros zero = refl
-bits-of-zeros (suc k) =
-    let e : 8 * suc k ≡ suc (suc (suc (suc (suc (suc (suc (suc (8 * k)))))))) = omega arith in
-    rw (e, bits-of-zeros k)
-
-zero-register : (k : ℕ) → register k (bits (zeros k)) ≡ zeros k
-unfolding register bits byteBits number
-zero-register zero = refl
-zero-register (suc k) = ap (λ (r : List ℕ). 0 ∷ r) (zero-register k)
-
-pub taken-into-zeros : (k : ℕ) (xs : List ℕ) → length xs ≤ 8 * k → Bits xs → takenAll k (zeros k) xs ≡ register k (zeros (8 * k - length xs) ++ xs)
-taken-into-zeros k xs h s =
-    let z : length (zeros (8 * k)) ≡ 8 * k = length-replicate (8 * k) 0 in
-    taken-all k (zeros k) xs (length-replicate k 0) (zero-register k) s
-    ∙ ap (register k) (rw (bits-of-zeros k, drop-append-le (length xs) (zeros (8 * k)) xs (omega arith), drop-zeros))
-
--- CLEARING, ALIGNING, RECEIVING
-
-pub taken-kept : (k n : ℕ) (r : List ℕ) → length r ≡ k → takenAll k (zeros k) (drop (8 * k - n) (bits r)) ≡ register k (kept (8 * k) n (bits r))
-unfolding kept
-taken-kept k n r l =
-    let K = drop (8 * k - n) (bits r) in
-    let lk : length K ≡ 8 * k - (8 * k - n) = omega (arith, length-drop (8 * k - n) (bits r), length-bits r) in
-    let e : 8 * k - length K ≡ 8 * k - n = omega arith in
-    taken-into-zeros k K (omega arith) (bits-drop (8 * k - n) (bits r) (bits-small r)) ∙ ap (λ (m : ℕ). register k (zeros m ++ K)) e
-
 pub taken-moved : (k m : ℕ) (r : List ℕ) → length r ≡ k → register k (bits r) ≡ r → takenAll k r (zeros m) ≡ register k (movedUp m (bits r))
 unfolding movedUp
 taken-moved k m r l e =
     taken-all k r (zeros m) l e (bits-zeros m) ∙ ap (λ (j : ℕ). register k (drop j (bits r ++ zeros m))) (length-replicate m 0)
-
-bits-order : (high : Bool) (rs : List ℕ) → Bits rs → Bits (order high rs)
-unfolding order
-bits-order true rs s = s
-bits-order false rs s = bits-reverse rs s
-
-pub taken-received : (k : ℕ) (high : Bool) (rs : List ℕ) → length rs ≤ 8 * k → Bits rs → takenAll k (zeros k) (order high rs) ≡ register k (received (8 * k) high rs)
-unfolding received
-taken-received k high rs h s =
-    let e : length (order high rs) ≡ length rs = length-order high rs in
-    taken-into-zeros k (order high rs) (omega arith) (bits-order high rs s)
-    ∙ ap (λ (m : ℕ). register k (zeros (8 * k - m) ++ order high rs)) e

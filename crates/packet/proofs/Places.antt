@@ -10,21 +10,9 @@ use lib.ListN.{length, getD, length-reverse, List·getD-append, List·getD-eq-de
 use lib.Seq.{getD-at, getD-append-add, getD-take, length-take-le}
 use Rattle.packet.specs.Register.{byteBits, bits}
 use Rattle.packet.specs.Packet.{order, sent, sentAt}
-use Rattle.packet.proofs.Bytes.{length-byte, length-bits}
+use Rattle.packet.proofs.Bytes.{length-byte, length-bits, byte-at}
 
 -- A BIT OF A REGISTER
-
-pub byte-at : (b j : ℕ) → j < 8 → getD (byteBits b) j 0 ≡ b / 2 ^ (7 - j) % 2
-unfolding byteBits
-byte-at b zero h = refl
-byte-at b (suc zero) h = refl
-byte-at b (suc (suc zero)) h = refl
-byte-at b (suc (suc (suc zero))) h = refl
-byte-at b (suc (suc (suc (suc zero)))) h = refl
-byte-at b (suc (suc (suc (suc (suc zero))))) h = refl
-byte-at b (suc (suc (suc (suc (suc (suc zero)))))) h = refl
-byte-at b (suc (suc (suc (suc (suc (suc (suc zero))))))) h = omega arith
-byte-at b (suc (suc (suc (suc (suc (suc (suc (suc j)))))))) h = absurd (omega arith)
 
 bits-at : (l : List ℕ) (q j : ℕ) → q < length l → j < 8 → getD (bits l) (8 * q + j) 0 ≡ getD l q 0 / 2 ^ (7 - j) % 2
 unfolding bits

@@ -53,6 +53,10 @@ aligned w n high r = cond high (register (w / 8) (movedUp (w - n) (bits r))) r
 abbrev pub loaded : ℕ → ℕ → Bool → List ℕ → List ℕ
 loaded w n high held = aligned w n high (cleared w n (fromHeld (w / 8) held))
 
+-- the register of k bytes with a bit that comes in at the lowest place and moves the others up
+abbrev pub takenIn : ℕ → ℕ → List ℕ → List ℕ
+takenIn k bit r = register k (drop 1 (bits r ++ (bit ∷ [])))
+
 -- EXCHANGING (46)
 
 -- the order on the wire: "from bit 63 down with bit 2 set, else from bit 0 up"
@@ -69,10 +73,6 @@ sentAt high r step = getD (order high (bits r)) step 0
 -- "the N bits received at bits N − 1 to 0, rest zero, the first one at bit N − 1 with bit 2 set, else at bit 0"
 unfoldable pub received : ℕ → Bool → List ℕ → List ℕ
 received w high rs = zeros (w - length rs) ++ order high rs
-
--- the register of k bytes with a bit that comes in at the lowest place and moves the others up
-abbrev pub takenIn : ℕ → ℕ → List ℕ → List ℕ
-takenIn k bit r = register k (drop 1 (bits r ++ (bit ∷ [])))
 
 -- SENDING (4A): "the low ceil(N/8) bytes, lowest first"
 abbrev pub lowBytes : ℕ → List ℕ → List ℕ

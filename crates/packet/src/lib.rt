@@ -2,7 +2,7 @@
 // of CONFIG_SPI.
 ghost use mathlib.Core.Path.{_≡_};
 ghost use mathlib.Core.Bool.{true, cond};
-ghost use Prim.Native.Nat.{_+_, _-_, _<_, _≤_, min};
+ghost use Prim.Native.Nat.{_+_, _-_, _%_, _^_, _<_, _≤_, min};
 ghost use mathlib.Core.List.{[], _∷_, _++_};
 ghost use lib.ListN.{drop, getD, length};
 ghost use Rattle.packet.specs.Register.{bits};
@@ -37,6 +37,16 @@ pub fn bytes_for(n: u8) -> u8
     ensures { λ r. ⌜ r ≡ packetBytes n ⌝ }
 {
     ((n as u16 + 7) / 8) as u8
+}
+
+// How many of n bits stand above the lowest byte that they take.
+pub fn above_byte(n: u8) -> u8
+    ensures { λ r. ⌜ r ≡ n - 8 ⌝ }
+{
+    if n < 8 {
+        return 0;
+    }
+    n - 8
 }
 
 // How many of the register's bits stand above the low n.
@@ -80,9 +90,8 @@ fn move_up(r: Register, bit: u8) -> Register
     q
 }
 
-// The register with a received bit taken in at its lowest place, the others moved up.
-// The caller shows that the bit is 0 or 1.
-pub fn take_in(r: Register, bit: u8) -> Register
+// The register with a bit taken in at its lowest place, the others moved up.
+fn take_in(r: Register, bit: u8) -> Register
     requires { ⌜ bit < 2 ⌝ }
     ensures { λ q. ⌜ q ≡ takenIn registerBytes bit r ⌝ }
 {
@@ -99,17 +108,28 @@ fn bit_at(r: Register, place: u8) -> u8
     (b >> (7 - place % 8)) % 2
 }
 
-// The low n bits kept, the rest zero.
+// The low n bits of a byte, the others zero.
+fn low_bits(b: u8, n: u8) -> u8
+    ensures { λ r. ⌜ r ≡ b % 2 ^ min n 8 ⌝ }
+{
+    if n < 8 {
+        return b % (1 << n);
+    }
+    b
+}
+
+// The low n bits kept, the rest zero: each byte keeps of its bits what the bytes below it leave of n.
 pub fn clear(r: Register, n: u8) -> Register
     ensures { λ q. ⌜ q ≡ cleared width n r ⌝ }
 {
     let mut q = [0u8; BYTES];
-    let mut place = spare(n);
-    while place < WIDTH {
-        let bit = bit_at(r, place);
-        let t = take_in(q, bit);
-        q = t;
-        place += 1;
+    let mut i: usize = BYTES;
+    let mut left = n;
+    while 0 < i {
+        i -= 1;
+        let b = low_bits(r[i], left);
+        q[i] = b;
+        left = above_byte(left);
     }
     q
 }

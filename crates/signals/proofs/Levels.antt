@@ -1,7 +1,7 @@
 -- Laws of the levels that samples give, and of the loops that read them in either order. Assumes nothing.
 use mathlib.Core.Path.{_≡_, refl, ap, _∙_}
 use mathlib.Core.List.{List}
-use Prim.Native.Nat.{ℕ, zero, suc, _+_, _-_, _*_, _^_, _≤_, _<_}
+use Prim.Native.Nat.{ℕ, zero, suc, _+_, _*_, _^_, _≤_, _<_}
 use native.Mathlib.Nat.{add-zero, not-suc-le-zero, pow-suc}
 use native.Mathlib.Numerals.{add-one}
 use native.Mathlib.Omega.{arith}
@@ -9,20 +9,13 @@ use lib.ListN.{length, getD, drop}
 use lib.Pow.{pow-mono}
 use lib.Seq.{drop-cons}
 use Rattle.wire.specs.Sample.{levelAt}
-use Rattle.wire.proofs.Samples.{level-bit}
 use Rattle.packet.specs.Register.{number}
-use Rattle.packet.proofs.Bytes.{Bits}
 use Rattle.signals.specs.Lines.{levels}
 
 pub length-levels : (ss : List ℕ) (s n : ℕ) → length (levels ss s n) ≡ n
 unfolding levels
 length-levels ss s zero = refl
 length-levels ss s (suc n) = ap suc (length-levels ss (s + 1) n)
-
-pub bits-levels : (ss : List ℕ) (s n : ℕ) → Bits (levels ss s n)
-unfolding levels
-bits-levels ss s zero = tt
-bits-levels ss s (suc n) = (level-bit _, bits-levels ss (s + 1) n)
 
 pub levels-at : (ss : List ℕ) (s n i : ℕ) → i < n → levelAt ss (s + i) ≡ getD (levels ss s n) i 0
 unfolding levels

@@ -8,8 +8,8 @@ use mir.Syntax.{w16}
 use lib.ListN.{length, getD, take, length-reverse, length-replicate}
 use lib.Seq.{getD-take, length-take-le}
 use Rattle.packet.specs.Register.{byteBits, zeros}
-use Rattle.packet.proofs.Bytes.{length-byte}
-use Rattle.packet.proofs.Places.{byte-at, getD-reverse}
+use Rattle.packet.proofs.Bytes.{length-byte, byte-at}
+use Rattle.packet.proofs.Places.{getD-reverse}
 use Rattle.signals.specs.OneWire.{lowFirst}
 
 -- a unit of at most 8 µs times at most 255 is a number of 16 bits

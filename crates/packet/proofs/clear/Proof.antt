@@ -1,22 +1,21 @@
--- The loop's invariant: taking in the bits that are left gives what taking in all the low bits gives.
+-- The loop's invariant: from the place on the bytes are those of the cleared register.
 use borrow.Author.Needs.{needs}
-use mathlib.Core.Path.{_≡_, refl, sym, ap, _∙_}
-use mathlib.Core.List.{List, []}
-use Prim.Native.Nat.{ℕ, _+_, _-_, _≤_}
+use mathlib.Core.Path.{_≡_, _∙_}
+use Prim.Native.Nat.{_-_, _*_, _≤_}
 use native.Mathlib.Omega.{arith}
-use lib.ListN.{length, drop, drop-of-length-le}
-use Rattle.packet.specs.Register.{bits, zeros}
-use Rattle.packet.specs.Packet.{width, registerBytes, takenIn}
-use Rattle.packet.proofs.Bytes.{length-bits}
-use Rattle.packet.proofs.Moves.{takenAll, taken-turn, taken-kept}
+use lib.ListN.{length, drop, length-set}
+use Rattle.packet.specs.Register.{bits}
+use Rattle.packet.specs.Packet.{width, registerBytes, kept, cleared}
+use Rattle.packet.proofs.Bytes.{length-register}
+use Rattle.packet.proofs.Filled.{kept-at, fill-start, fill-turn}
 use Rattle.packet.proofs.clear.Statement.{statement}
 use Rattle.packet.proofs.clear.Tie as tie
 
 abbrev Inv-loop : tie.InvT-loop
-Inv-loop r n q₀ place₀ q place = (place ≤ width) × (takenAll registerBytes q (drop place (bits r)) ≡ takenAll registerBytes q₀ (drop place₀ (bits r)))
+Inv-loop n r q₀ i₀ left₀ q i left = (i ≤ registerBytes) × (length q ≡ registerBytes) × (left ≡ n - 8 * (registerBytes - i)) × (drop i q ≡ drop i (cleared width n r))
 
 abbrev μ-loop : tie.MeasureT-loop
-μ-loop r n q₀ place₀ q place = width - place
+μ-loop n r q₀ i₀ left₀ q i left = i
 
 pub clear-spec : {M : Type 1} → statement M
 clear-spec =
@@ -24,30 +23,27 @@ clear-spec =
     (tie.spec
     Inv-loop
     μ-loop
-    (λ c κs. search needs)
-    (λ c. (omega arith, refl))
-    (λ c κs. search needs)
+    (λ c. (omega arith, search needs, omega arith, fill-start registerBytes (kept width (c .args .n) (bits (c .args .t1)))))
+    (λ c. search needs)
+    (λ c. search needs)
     (λ c κs. search needs)
     (λ c. search needs)
+    (λ c κs. search needs)
     (λ c. search needs)
     (λ c.
     let b = c .before in
     let m = b .before .before in
-    let s = m .before .before in
-    let r = s .args .r in
-    let p = m .loop .place in
-    let w : length (bits r) ≡ width = omega (arith, length-bits r, s .good .0 .1 .0 .1) in (
+    let s = m .before in
+    let r = s .args .t1 in
+    let i = m .loop .i in
+    let t = cleared width (s .args .n) r in
+    let l : length t ≡ registerBytes = length-register registerBytes (kept width (s .args .n) (bits r)) in (
       omega arith,
-      ap (λ (q : List ℕ). takenAll registerBytes q (drop (p + 1) (bits r))) (c .take-in .ensures ∙ ap (λ (x : ℕ). takenIn registerBytes x (m .loop .q)) (b .bit-at .ensures .0))
-          ∙ taken-turn registerBytes (m .loop .q) (bits r) p (omega arith)
-          ∙ m .loop .inv .1,
+      simp length-set (omega arith),
+      omega arith,
+      fill-turn (m .loop .q) t i _ (search needs) (omega arith) (omega arith) (b .low-bits .ensures ∙ kept-at registerBytes (s .args .n) (i - 1) (m .loop .left) r (s .good .0 .1 .0 .1) (omega arith) (omega arith)) (m .loop .inv .3),
     ))
     (λ c.
     let m = c .before in
-    let s = m .before .before in
-    let r = s .args .r in
-    let d : drop (m .loop .place) (bits r) ≡ [] = drop-of-length-le (bits r) {i = m .loop .place} (omega (arith, length-bits r, s .good .0 .1 .0 .1)) in
-    ap (takenAll registerBytes (m .loop .q)) (sym d)
-    ∙ m .loop .inv .1
-    ∙ ap (λ (p : ℕ). takenAll registerBytes (zeros registerBytes) (drop p (bits r))) (m .before .spare .ensures)
-    ∙ taken-kept registerBytes (s .args .n) r (s .good .0 .1 .0 .1)))
+    let z : m .loop .i ≡ 0 = omega arith in
+    rw z at (m .loop .inv .3)))

@@ -4,7 +4,7 @@ use Prim.Native.Nat.{_-_, _≤_}
 use native.Mathlib.Omega.{arith}
 use Rattle.packet.specs.Register.{byteBits}
 use Rattle.packet.proofs.Bytes.{length-byte}
-use Rattle.packet.proofs.Places.{byte-at}
+use Rattle.packet.proofs.Bytes.{byte-at}
 use Rattle.signals.specs.I2c.{i2cBit}
 use Rattle.signals.proofs.Rows.{Owed, owed-all, owed-fits, owed-turn, owed-none}
 use Rattle.signals.proofs.i2c.put_bits.Statement.{statement}
