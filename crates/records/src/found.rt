@@ -106,8 +106,11 @@ fn first_byte(body: &[u8], place: usize) -> Found
 pub fn find(s: &[u8], at: usize, end: usize) -> Found
     ensures { λ r. ⌜ r ≡ foundAt (now (s .entry)) at end ⌝ }
 {
-    if (at < end) & (end <= s.len()) {
-        return first_byte(&s[at..end], at);
+    if end <= at {
+        return next_record(s, at);
     }
-    next_record(s, at)
+    if s.len() < end {
+        return next_record(s, at);
+    }
+    first_byte(&s[at..end], at)
 }

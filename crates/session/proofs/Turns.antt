@@ -1,15 +1,15 @@
 -- A step's parts, over plain variables. Assumes nothing.
 use Prim.Native.Nat.{ℕ, _+_, _*_, _≤_}
-use mathlib.Core.Path.{_≡_, refl, sym, ap, _∙_}
+use mathlib.Core.Path.{_≡_, refl, subst}
 use mathlib.Core.Bool.{Bool, true, false, _||_, true≢false}
-use mathlib.Core.List.{List}
+use mathlib.Core.List.{List, [], _∷_}
 use mathlib.Core.Logic.{inl, inr}
 use native.Mathlib.Omega.{arith}
 use borrow.Author.Tests.{eq-eqb, ne-eqb, ltb-true, ltb-false}
 use lib.Dec.{ltb}
-use lib.ListN.{length}
+use lib.ListN.{length, getD}
 use Rattle.wire.specs.Buffer.{Written}
-use Rattle.records.specs.Records.{headOf}
+use Rattle.records.specs.Records.{headOf, recordOf}
 use Rattle.session.specs.Replay.{Cursor, Turn}
 use Rattle.session.specs.Runs.{Ran, mostOutput}
 use Rattle.session.specs.Turned.{Turned, Headed, Barred}
@@ -45,3 +45,12 @@ module _ (c : Cursor) (t : Turn) (o : List ℕ) where
       go : (d : Bool) → c .done ≡ d → d || ltb (length o) mostOutput ≡ false → Barred c t o x r
       go true e k = absurd (true≢false k)
       go false e k = inr (e, room-for h, u)
+
+-- A RECORD OF ONE BYTE, that byte given
+one-byte : (xs : List ℕ) → length xs ≡ 1 → getD xs 0 0 ∷ [] ≡ xs
+one-byte [] e = absurd (omega arith)
+one-byte (x ∷ []) e = refl
+one-byte (x ∷ y ∷ xs) e = absurd (omega arith)
+
+pub one-record : (kind : ℕ) (xs : List ℕ) {o x : List ℕ} {at n : ℕ} → length xs ≡ 1 → Written o at (recordOf kind (getD xs 0 0 ∷ [])) x n → Written o at (recordOf kind xs) x n
+one-record kind xs {o} {x} {at} {n} e w = subst (λ (ys : List ℕ). Written o at (recordOf kind ys) x n) (one-byte xs e) w

@@ -23,13 +23,17 @@ const LAST: u16 = 0x0104;
 
 const REFUSAL: u16 = 0x01FF;
 
-// The reply bytes as a record, none if empty, at a place where the caller shows room for it.
+// The reply bytes as a record, none if empty, at a place where the caller shows room for it. Most events reply with one byte,
+// which is written without a copy of unknown length.
 pub(crate) fn put_replies(out: &mut [u8], at: usize, bytes: &[u8]) -> usize
     requires { ⌜ at + 4 + length (now bytes) ≤ length (now out) ⌝ }
     ensures { λ n. ⌜ Written (now (out .entry)) at (unlessEmpty 0x0101 (now (bytes .entry))) (now (out .exit)) n ⌝ }
 {
     if bytes.len() == 0 {
         return at;
+    }
+    if bytes.len() == 1 {
+        return put_record(out, at, REPLIES, &[bytes[0]]);
     }
     put_record(out, at, REPLIES, bytes)
 }

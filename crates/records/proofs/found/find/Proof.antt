@@ -1,9 +1,9 @@
--- In a body of bytes, or not.
+-- Past the body, past the file, or in a body of bytes.
 use borrow.Author.Needs.{needs}
+use borrow.Author.Tests.{lt-ltb, le-ltb, le-leb, lt-leb}
 use native.Mathlib.Omega.{arith}
-use lib.ListN.{length, length-take, length-drop}
+use lib.ListN.{length-take, length-drop}
 use Rattle.records.specs.Found.{foundAt}
-use Rattle.records.proofs.Bodies.{inside}
 use Rattle.records.proofs.found.find.Statement.{statement}
 use Rattle.records.proofs.found.find.Tie as tie
 
@@ -12,13 +12,12 @@ unfolding foundAt
 find-spec =
     tie.close
     (tie.spec
-    (λ c. let a = c .before .before .args in omega (arith, inside (a .at) (a .end) (length (a .s .now)) (c .if1 .taken) .0))
-    (λ c. let a = c .before .before .args in omega (arith, inside (a .at) (a .end) (length (a .s .now)) (c .if1 .taken) .0))
-    (λ c. let a = c .before .before .args in inside (a .at) (a .end) (length (a .s .now)) (c .if1 .taken) .1)
-    (λ c κs.
-    let a = c .before .before .before .args in
-    let h = inside (a .at) (a .end) (length (a .s .now)) (c .before .if1 .taken) in
-    simp (length-take, length-drop) (omega (arith, h .0, h .1)))
-    (λ c. rw (c .before .before .if1 .taken) (c .first-byte .ensures))
     (λ c κs. search needs)
-    (λ c. rw (c .before .if1 .left) (c .next-record .ensures)))
+    (λ c. rw (le-ltb _ _ (c .before .if1 .taken)) (c .next-record .ensures))
+    (λ c κs. search needs)
+    (λ c. rw (lt-ltb _ _ (c .before .before .if1 .left), lt-leb _ _ (c .before .if2 .taken)) (c .next-record2 .ensures))
+    (λ c. search needs)
+    (λ c. search needs)
+    (λ c. search needs)
+    (λ c κs. simp (length-take, length-drop) (omega (arith, c .before .if2 .left, c .before .before .if1 .left)))
+    (λ c. rw (lt-ltb _ _ (c .before .before .before .if1 .left), le-leb _ _ (c .before .before .if2 .left)) (c .first-byte .ensures)))
