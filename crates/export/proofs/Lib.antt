@@ -1,0 +1,4 @@
+pub mod Parts
+pub mod Sizes
+pub mod Waits
+pub mod Images

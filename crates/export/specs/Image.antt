@@ -1,0 +1,161 @@
+-- The state image (include/bridge.h): a state as a row of bytes, and back.
+use Prim.Native.Nat.{ℕ, _+_}
+use mathlib.Core.Path.{_≡_}
+use mathlib.Core.Bool.{Bool, true, false, cond, _&&_, _||_}
+use mathlib.Core.List.{List, [], _∷_, _++_}
+use lib.Dec.{eqb, leb}
+use lib.ListN.{getD, length, take, drop}
+use Rattle.packet.specs.Packet.{registerBytes}
+use Rattle.registers.specs.declared.Page.{Page}
+use Rattle.registers.specs.declared.Shared.{Shared}
+use Rattle.registers.specs.declared.State.{State}
+use Rattle.registers.specs.declared.PortRegister.{PortRegister}
+use Rattle.registers.specs.declared.PortRegister.the-variants.{Ddrb, Portb, Ddrc, Portc, Ddrd, Portd}
+use Rattle.registers.specs.declared.Operand.{Operand}
+use Rattle.registers.specs.declared.Operand.the-variants.{ToPort, ToCycles, ToI2c, ToConfig, ToSize, ToWire, ToWireBit, ToWireStrong}
+use Rattle.registers.specs.declared.Wait.{Wait}
+use Rattle.registers.specs.declared.Wait.the-variants.{Nothing, One, Extended, Packet, Timings}
+use Rattle.commands.specs.Common.{Entry, _is_, lookup}
+use Rattle.commands.specs.Promises.{Sized}
+
+-- WHERE EACH PART STANDS: the registers, then each part after the one before it
+abbrev pub atConfigured : ℕ
+atConfigured = 9
+
+abbrev pub atPacket : ℕ
+atPacket = 11
+
+abbrev pub atTimings : ℕ
+atTimings = atPacket + registerBytes
+
+abbrev pub atEprom : ℕ
+atEprom = atTimings + 9
+
+abbrev pub atCycles : ℕ
+atCycles = atEprom + 10
+
+abbrev pub atVersion : ℕ
+atVersion = atCycles + 1
+
+abbrev pub atSerial : ℕ
+atSerial = atVersion + 1
+
+abbrev pub atWait : ℕ
+atWait = atSerial + 4
+
+abbrev pub atLeft : ℕ
+atLeft = atWait + 1
+
+abbrev pub atHeld : ℕ
+atHeld = atLeft + 1
+
+-- "the packet or timing bytes held so far"
+abbrev pub heldBytes : ℕ
+heldBytes = 9
+
+abbrev pub imageSize : ℕ
+imageSize = atHeld + heldBytes
+
+-- WHAT IS WAITED FOR: "0 nothing; one operand for 1 DDRB, .. 14 the byte after 1D; 15 packet bytes, 16 packet bytes and then an
+-- exchange, 17 timing bytes"
+abbrev pub portCode : PortRegister → ℕ
+portCode Ddrb = 1
+portCode Portb = 2
+portCode Ddrc = 3
+portCode Portc = 4
+portCode Ddrd = 5
+portCode Portd = 6
+
+abbrev pub operandCode : Operand → ℕ
+operandCode (ToPort r) = portCode r
+operandCode ToCycles = 7
+operandCode ToI2c = 8
+operandCode ToConfig = 9
+operandCode ToSize = 10
+operandCode ToWire = 11
+operandCode ToWireBit = 12
+operandCode ToWireStrong = 13
+
+abbrev pub waitCode : Wait → ℕ
+waitCode Nothing = 0
+waitCode (One o) = operandCode o
+waitCode Extended = 14
+waitCode (Packet left exchange) = cond exchange 16 15
+waitCode (Timings left) = 17
+
+-- "how many more bytes are waited for, with 15 to 17; else 0"
+abbrev pub waitLeft : Wait → ℕ
+waitLeft Nothing = 0
+waitLeft (One o) = 0
+waitLeft Extended = 0
+waitLeft (Packet left exchange) = left
+waitLeft (Timings left) = left
+
+-- THE IMAGE of a state
+abbrev pub pageBytes : Page → List ℕ
+pageBytes p =
+    (p .flags ∷ p .error ∷ p .ddrb ∷ p .portb ∷ p .ddrc ∷ p .portc ∷ p .ddrd ∷ p .portd ∷ p .config ∷ cond (p .configured) 1 0 ∷ p .size ∷ [])
+    ++ p .packet ++ p .timings
+
+abbrev pub sharedBytes : Shared → List ℕ
+sharedBytes h = h .eprom ++ (h .cycles ∷ h .version ∷ []) ++ h .serial
+
+abbrev pub waitBytes : Wait → List ℕ → List ℕ
+waitBytes w held = (waitCode w ∷ waitLeft w ∷ []) ++ held
+
+unfoldable pub imageOf : State → List ℕ
+imageOf s = pageBytes (s .page) ++ sharedBytes (s .shared) ++ waitBytes (s .wait) (s .held)
+
+-- THE STATE of an image
+abbrev pub part : List ℕ → ℕ → ℕ → List ℕ
+part i at size = take size (drop at i)
+
+abbrev pub pageIn : List ℕ → Page
+pageIn i = record {
+  flags = getD i 0 0;
+  error = getD i 1 0;
+  ddrb = getD i 2 0;
+  portb = getD i 3 0;
+  ddrc = getD i 4 0;
+  portc = getD i 5 0;
+  ddrd = getD i 6 0;
+  portd = getD i 7 0;
+  config = getD i 8 0;
+  configured = eqb (getD i atConfigured 0) 1;
+  size = getD i 10 0;
+  packet = part i atPacket registerBytes;
+  timings = part i atTimings 9;
+}
+
+abbrev pub sharedIn : List ℕ → Shared
+sharedIn i = record { eprom = part i atEprom 10; cycles = getD i atCycles 0; version = getD i atVersion 0; serial = part i atSerial 4 }
+
+abbrev pub waitTable : ℕ → List (Entry Wait)
+waitTable left =
+    0 is Nothing
+    ∷ 1 is One (ToPort Ddrb) ∷ 2 is One (ToPort Portb) ∷ 3 is One (ToPort Ddrc) ∷ 4 is One (ToPort Portc) ∷ 5 is One (ToPort Ddrd) ∷ 6 is One (ToPort Portd)
+    ∷ 7 is One ToCycles ∷ 8 is One ToI2c ∷ 9 is One ToConfig ∷ 10 is One ToSize ∷ 11 is One ToWire ∷ 12 is One ToWireBit ∷ 13 is One ToWireStrong
+    ∷ 14 is Extended ∷ 15 is Packet left false ∷ 16 is Packet left true ∷ 17 is Timings left ∷ []
+
+abbrev pub waitOf : ℕ → ℕ → Wait
+waitOf code left = lookup Nothing code (waitTable left)
+
+unfoldable pub stateIn : List ℕ → State
+stateIn i = record { page = pageIn i; shared = sharedIn i; wait = waitOf (getD i atWait 0) (getD i atLeft 0); held = part i atHeld heldBytes }
+
+-- "Another length, a byte at 9 that is not 0 or 1, a byte at 44 over 17, or one at 45 that is not 0 with a wait of 0 to 14, is no
+-- state"
+unfoldable pub isState : List ℕ → Bool
+isState i = eqb (length i) imageSize && (leb (getD i atConfigured 0) 1 && leb (getD i atWait 0) 17 && (leb 15 (getD i atWait 0) || eqb (getD i atLeft 0) 0))
+
+-- THEOREM (proofs/Images.antt, `image-of-state`): the image of a state whose arrays have their sizes is a state's, this one's
+pub record Whole (s : State) : Type 0 where
+  pub registers : Sized s
+  pub held : length (s .held) ≡ heldBytes
+
+abbrev pub ImageOfState : State → Type 0
+ImageOfState s = Whole s → (isState (imageOf s) ≡ true) × (stateIn (imageOf s) ≡ s)
+
+-- THEOREM (proofs/Images.antt, `state-of-image`): what a state's image stands for has that image
+abbrev pub StateOfImage : List ℕ → Type 0
+StateOfImage i = isState i ≡ true → imageOf (stateIn i) ≡ i

@@ -1,0 +1,3 @@
+// What C links: include/bridge.h.
+mod decoding;
+mod encoding;
