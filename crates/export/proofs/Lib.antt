@@ -2,3 +2,4 @@ pub mod Parts
 pub mod Sizes
 pub mod Waits
 pub mod Images
+pub mod Ways

@@ -1,3 +1,100 @@
-// What C links: include/bridge.h.
+// What C links: include/bridge.h. A state goes by its image, and every other answer by a pointer.
+ghost use mathlib.Core.Path.{_≡_};
+ghost use lib.ListN.{length};
+ghost use Rattle.bridge.specs.Calls.{lent};
+ghost use Rattle.export.specs.Image.{imageSize, imageOf};
+ghost use Rattle.export.specs.Calls.{outcomeNumber, imageAfter, startCall, startGives, stepCall, stepGives, judgeCall, judgeGives, switchCall, switchGives, deviceOf};
+
 mod decoding;
 mod encoding;
+mod events;
+
+use bridge::Bridge;
+use bridge::Judgement;
+use bridge::Outcome;
+use bridge::Refusal;
+use bridge::Stepped;
+use events::Asked;
+use grammar::Verdict;
+use registers::State;
+
+// What a call that was taken gives.
+const TAKEN: u8 = 0;
+
+// The state goes to an image. The caller shows that this has an image's size.
+fn store(image: &mut [u8], s: State)
+    requires { ⌜ length (now image) ≡ imageSize ⌝ }
+    ensures { λ _. ⌜ now (image .exit) ≡ imageOf s ⌝ }
+{
+    encoding::put_image(image, s);
+}
+
+// The state that every session starts with goes to the image.
+#[no_mangle]
+pub extern "C" fn bridge_factory_start(state: &mut [u8]) -> u8
+    ensures { λ r. ⌜ startCall r (now (state .exit)) ≡ startGives (now (state .entry)) ⌝ }
+{
+    if state.len() != decoding::SIZE {
+        return bridge::number(Refusal::Ranges);
+    }
+    let b = switch_on::factory_start();
+    let s = b.state;
+    store(state, s);
+    TAKEN
+}
+
+// The number of an answer; the new state of a call that was taken goes to the image.
+fn finish(image: &mut [u8], x: Stepped) -> u8
+    requires { ⌜ length (now image) ≡ imageSize ⌝ }
+    ensures { λ r. ⌜ (r ≡ outcomeNumber (x .outcome)) × (now (image .exit) ≡ imageAfter (x .outcome) (x .bridge .state) (now (image .entry))) ⌝ }
+{
+    let o = x.outcome;
+    match o {
+        Outcome::Taken => {
+            let b = x.bridge;
+            let s = b.state;
+            store(image, s);
+            TAKEN
+        }
+        Outcome::Refused(why) => bridge::number(why),
+    }
+}
+
+// One event, by its kind and its value.
+#[no_mangle]
+pub extern "C" fn bridge_step(
+    state: &mut [u8],
+    kind: u8,
+    value: u8,
+    samples: &[u8],
+    sampled: usize,
+    actions: &mut [u8],
+    acted: usize,
+    replies: &mut [u8],
+    replied: usize,
+    used: &mut usize,
+    sent: &mut usize,
+    made: &mut usize,
+) -> u8
+    ensures { λ r. ⌜ stepCall r (now (state .exit)) (now (actions .exit)) (now (replies .exit)) (now (used .exit)) (now (sent .exit)) (now (made .exit)) ≡ stepGives (now (state .entry)) kind value (lent (now (samples .entry)) sampled (now (actions .entry)) acted (now (replies .entry)) replied) ⌝ }
+{
+    *used = 0;
+    *sent = 0;
+    *made = 0;
+    if !decoding::is_state(state) {
+        return bridge::number(Refusal::Ranges);
+    }
+    let asked = events::event_of(kind, value);
+    match asked {
+        Asked::Refused(why) => records::number(why),
+        Asked::Event(event) => {
+            let s = decoding::state_of(state);
+            let b = Bridge { state: s };
+            let x = b.step(event, samples, sampled, actions, acted, replies, replied);
+            *used = x.samples;
+            *sent = x.replies;
+            *made = x.actions;
+            finish(state, x)
+        }
+    }
+}

@@ -1,0 +1,17 @@
+-- Code by code.
+use mathlib.Core.Path.{sym, ap}
+use Rattle.records.specs.declared.Refusal.the-variants.{FaultBody}
+use Rattle.commands.proofs.Lookup.{missed}
+use Rattle.export.specs.Calls.{faultTable, faultAsked}
+use Rattle.export.specs.declared.events.Asked.the-variants.{Refused}
+use Rattle.export.proofs.events.fault.Statement.{statement}
+use Rattle.export.proofs.events.fault.Tie as tie
+
+pub fault-spec : {M : Type 1} → statement M
+fault-spec =
+    tie.close
+    (tie.spec
+    (λ c. sym (ap faultAsked (c .match .keys1)))
+    (λ c. sym (ap faultAsked (c .match .keys2)))
+    (λ c. sym (ap faultAsked (c .match .keys3)))
+    (λ c. missed (Refused FaultBody) (Unit {0}) faultTable (c .before .args .value) (c .match .rest)))

@@ -1,0 +1,139 @@
+-- What the functions of include/bridge.h give: a number, and everything behind their pointers. "0 says that a call was taken."
+use Prim.Native.Nat.{ℕ}
+use mathlib.Core.Bool.{cond}
+use mathlib.Core.List.{List, [], _∷_}
+use lib.Dec.{eqb}
+use lib.ListN.{length}
+use Rattle.registers.specs.declared.State.{State}
+use Rattle.registers.specs.declared.Event.the-variants as e
+use Rattle.registers.specs.declared.Fault.the-variants as k
+use Rattle.commands.specs.Common.{Entry, _is_, lookup}
+use Rattle.grammar.specs.declared.Verdict.{Verdict}
+use Rattle.grammar.specs.declared.Verdict.the-variants as v
+use Rattle.bridge.specs.Calls.{Lent, Given, numberOf, answerOf}
+use Rattle.bridge.specs.declared.Bridge.{Bridge}
+use Rattle.bridge.specs.declared.Outcome.{Outcome}
+use Rattle.bridge.specs.declared.Outcome.the-variants as o
+use Rattle.bridge.specs.declared.Refusal.the-variants.{Ranges}
+use Rattle.bridge.specs.Judging.{judgementOf}
+use Rattle.bridge.specs.declared.Judgement.{Judgement}
+use Rattle.bridge.specs.declared.Judgement.the-variants as j
+use Rattle.switch_on.specs.Start.{starting}
+use Rattle.switch_on.specs.SwitchOn.{Switched, switchOf}
+use Rattle.switch_on.specs.SwitchOn as on
+use Rattle.switch_on.specs.declared.Device.{Device}
+use Rattle.switch_on.specs.declared.Outcome as son
+use Rattle.switch_on.specs.declared.Outcome.the-variants as s
+use Rattle.records.specs.Records as r
+use Rattle.records.specs.declared.Refusal.the-variants.{Kind, FaultBody}
+use Rattle.export.specs.Image.{imageSize, imageOf, stateIn, isState}
+pub use Rattle.export.specs.declared.events.Asked.{Asked}
+pub use Rattle.export.specs.declared.events.Asked.the-variants as a
+
+-- the bridge of an image
+abbrev pub bridgeIn : List ℕ → Bridge
+bridgeIn image = record { state = stateIn image }
+
+-- BRIDGE_FACTORY_START: "The state that every session starts with goes to the image. 1 if it has another length."
+pub record StartCall : Type 0 where
+  pub number : ℕ
+  pub state : List ℕ
+
+abbrev pub startCall : ℕ → List ℕ → StartCall
+startCall n image = record { number = n; state = image }
+
+unfoldable pub startGives : List ℕ → StartCall
+startGives image = cond (eqb (length image) imageSize) (startCall 0 (imageOf (starting .state))) (startCall (numberOf Ranges) image)
+
+-- BRIDGE_STEP
+pub record StepCall : Type 0 where
+  pub number : ℕ
+  pub state : List ℕ
+  pub actions : List ℕ
+  pub replies : List ℕ
+  pub samples-used : ℕ
+  pub reply-count : ℕ
+  pub action-count : ℕ
+
+abbrev pub stepCall : ℕ → List ℕ → List ℕ → List ℕ → ℕ → ℕ → ℕ → StepCall
+stepCall n image as′ rs used sent acted = record { number = n; state = image; actions = as′; replies = rs; samples-used = used; reply-count = sent; action-count = acted }
+
+-- "a received byte (kind BRIDGE_BYTE, the byte), or a line fault (BRIDGE_FAULT, 81 frame, 82 overrun, 83 parity, hex)"; "8 for another
+-- kind, 9 for another fault"
+abbrev pub faultTable : List (Entry Asked)
+faultTable = 0x81 is a.Event (e.Fault k.Frame) ∷ 0x82 is a.Event (e.Fault k.Overrun) ∷ 0x83 is a.Event (e.Fault k.Parity) ∷ []
+
+abbrev pub faultAsked : ℕ → Asked
+faultAsked value = lookup (a.Refused FaultBody) value faultTable
+
+abbrev pub eventAsked : ℕ → ℕ → Asked
+eventAsked kind value = cond (eqb kind 1) (a.Event (e.Byte value)) (cond (eqb kind 2) (faultAsked value) (a.Refused Kind))
+
+-- "A refused call changes no byte behind any pointer, but for the counts, which are 0"
+abbrev pub stepRefused : ℕ → List ℕ → Lent → StepCall
+stepRefused n image l = stepCall n image (l .actions) (l .replies) 0 0 0
+
+abbrev pub outcomeNumber : Outcome → ℕ
+outcomeNumber o.Taken = 0
+outcomeNumber (o.Refused why) = numberOf why
+
+-- "Taken, the new state is in the image"
+abbrev pub imageAfter : Outcome → State → List ℕ → List ℕ
+imageAfter o.Taken s image = imageOf s
+imageAfter (o.Refused why) s image = image
+
+abbrev pub stepAnswered : List ℕ → Given → StepCall
+stepAnswered image g =
+    stepCall (outcomeNumber (g .answer .outcome)) (imageAfter (g .answer .outcome) (g .answer .bridge .state) image) (g .actions) (g .replies) (g .answer .samples) (g .answer .replies) (g .answer .actions)
+
+abbrev pub stepAsked : List ℕ → Lent → Asked → StepCall
+stepAsked image l (a.Event e) = stepAnswered image (answerOf (bridgeIn image) e l)
+stepAsked image l (a.Refused why) = stepRefused (r.numberOf why) image l
+
+unfoldable pub stepGives : List ℕ → ℕ → ℕ → Lent → StepCall
+stepGives image kind value l = cond (isState image) (stepAsked image l (eventAsked kind value)) (stepRefused (numberOf Ranges) image l)
+
+-- BRIDGE_JUDGE: "the verdict, and with BRIDGE_WRONG the place", else 0 there; refused, both stay
+pub record JudgeCall : Type 0 where
+  pub number : ℕ
+  pub verdict : ℕ
+  pub place : ℕ
+
+abbrev pub judgeCall : ℕ → ℕ → ℕ → JudgeCall
+judgeCall n verdict place = record { number = n; verdict = verdict; place = place }
+
+abbrev pub judged : Verdict → JudgeCall
+judged v.Whole = judgeCall 0 0 0
+judged v.Open = judgeCall 0 1 0
+judged (v.Wrong k) = judgeCall 0 2 k
+
+abbrev pub judgeAnswered : ℕ → ℕ → Judgement → JudgeCall
+judgeAnswered verdict place (j.Judged w) = judged w
+judgeAnswered verdict place (j.Refused why) = judgeCall (numberOf why) verdict place
+
+unfoldable pub judgeGives : List ℕ → List ℕ → ℕ → ℕ → JudgeCall
+judgeGives image bytes verdict place = cond (isState image) (judgeAnswered verdict place (judgementOf (bridgeIn image) bytes)) (judgeCall (numberOf Ranges) verdict place)
+
+-- BRIDGE_SWITCH_ON: "the state goes to the image, the actions to the buffer from the mark on. .. 1 if the image has another length."
+pub record SwitchCall : Type 0 where
+  pub number : ℕ
+  pub state : List ℕ
+  pub actions : List ℕ
+  pub action-count : ℕ
+
+abbrev pub switchCall : ℕ → List ℕ → List ℕ → ℕ → SwitchCall
+switchCall n image as′ acted = record { number = n; state = image; actions = as′; action-count = acted }
+
+abbrev pub deviceOf : ℕ → ℕ → ℕ → Device
+deviceOf cycles version serial = record { cycles = cycles; version = version; serial = r.word32 serial }
+
+abbrev pub switchNumber : son.Outcome → ℕ
+switchNumber s.On = 0
+switchNumber (s.Refused why) = on.numberOf why
+
+abbrev pub switchAnswered : Switched → SwitchCall
+switchAnswered x = switchCall (switchNumber (x .answer .outcome)) (imageOf (x .answer .bridge .state)) (x .buffer) (x .answer .actions)
+
+unfoldable pub switchGives : List ℕ → List ℕ → Device → List ℕ → List ℕ → ℕ → SwitchCall
+switchGives stored factory d image buffer mark =
+    cond (eqb (length image) imageSize) (switchAnswered (switchOf stored factory d buffer mark)) (switchCall (numberOf Ranges) image buffer 0)
