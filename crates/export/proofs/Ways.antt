@@ -11,11 +11,19 @@ use Rattle.bridge.specs.Calls.{Lent, Given, numberOf, given, answerOf}
 use Rattle.bridge.specs.declared.Bridge.{Bridge}
 use Rattle.bridge.specs.declared.Stepped.{Stepped}
 use Rattle.bridge.specs.declared.Refusal.the-variants.{Ranges}
+use Rattle.bridge.specs.declared.Refusal.{Refusal}
+use Rattle.bridge.specs.Judging.{judgementOf}
+use Rattle.bridge.specs.declared.Judgement.{Judgement}
+use Rattle.bridge.specs.declared.Judgement.the-variants as j
+use Rattle.grammar.specs.declared.Verdict.{Verdict}
 use Rattle.switch_on.specs.Start.{starting}
+use Rattle.switch_on.specs.SwitchOn.{switched, switchOf}
+use Rattle.switch_on.specs.declared.Device.{Device}
+use Rattle.switch_on.specs.declared.SwitchedOn.{SwitchedOn}
 use Rattle.records.specs.Records as r
 use Rattle.records.specs.declared.Refusal as why
 use Rattle.export.specs.Image.{imageSize, imageOf, stateIn, isState}
-use Rattle.export.specs.Calls.{Asked, startCall, startGives, StepCall, stepCall, eventAsked, outcomeNumber, imageAfter, stepAnswered, stepGives}
+use Rattle.export.specs.Calls.{Asked, startCall, startGives, StepCall, stepCall, eventAsked, outcomeNumber, imageAfter, stepAnswered, stepGives, judgeCall, verdictNumber, placeOf, judgeAnswered, judgeGives, switchCall, switchNumber, switchAnswered, switchGives}
 use Rattle.export.specs.declared.events.Asked.the-variants as a
 
 module _ (image : List ℕ) where
@@ -47,3 +55,34 @@ module _ (image : List ℕ) where
           ∙ ap (stepAnswered image) eg
           ∙ ap (λ (t : State). stepAnswered image (answerOf (record { state = t }) e l)) es
           ∙ rw (h, ← ex, q)
+
+  module _ (bytes : List ℕ) (verdict place : ℕ) where
+    pub judge-no-state : isState image ≡ false → {n : ℕ} → n ≡ numberOf Ranges → judgeCall n verdict place ≡ judgeGives image bytes verdict place
+    unfolding judgeGives
+    judge-no-state h e = rw (h, e)
+
+    module _ (h : isState image ≡ true) {s : State} (es : s ≡ stateIn image) {x : Judgement} (ex : x ≡ judgementOf (record { state = s }) bytes) where
+      answered : judgeAnswered verdict place x ≡ judgeGives image bytes verdict place
+      unfolding judgeGives
+      answered = ap (judgeAnswered verdict place) (ex ∙ ap (λ (t : State). judgementOf (record { state = t }) bytes) es) ∙ rw h
+
+      pub judge-refused : {w : Refusal} → x ≡ j.Refused w → {n : ℕ} → n ≡ numberOf w → judgeCall n verdict place ≡ judgeGives image bytes verdict place
+      judge-refused q e = ap (λ (k : ℕ). judgeCall k verdict place) e ∙ ap (judgeAnswered verdict place) (sym q) ∙ answered
+
+      pub judge-judged : {w : Verdict} → x ≡ j.Judged w → {v k : ℕ} → v ≡ verdictNumber w → k ≡ placeOf w → judgeCall 0 v k ≡ judgeGives image bytes verdict place
+      judge-judged q ev ek = (λ i. judgeCall 0 (ev i) (ek i)) ∙ ap (judgeAnswered verdict place) (sym q) ∙ answered
+
+  module _ (stored factory : List ℕ) (d : Device) (buffer : List ℕ) (mark : ℕ) where
+    pub switch-refused : (length image ≡ imageSize → ⊥) → {n : ℕ} → n ≡ numberOf Ranges → switchCall n image buffer 0 ≡ switchGives stored factory d image buffer mark
+    unfolding switchGives
+    switch-refused h e = rw (ne-eqb _ _ h, e)
+
+    pub switch-answers : length image ≡ imageSize → {g : Device} → g ≡ d → {x : SwitchedOn} {b : List ℕ} → switched x b ≡ switchOf stored factory g buffer mark
+        → {i : List ℕ} → i ≡ imageOf (x .bridge .state) → {n : ℕ} → n ≡ switchNumber (x .outcome)
+        → switchCall n i b (x .actions) ≡ switchGives stored factory d image buffer mark
+    unfolding switchGives
+    switch-answers h {g} eg {x} {b} ex ei en =
+        (λ k. switchCall (en k) (ei k) b (x .actions))
+        ∙ ap switchAnswered ex
+        ∙ ap (λ (t : Device). switchAnswered (switchOf stored factory t buffer mark)) eg
+        ∙ rw (eq-eqb _ _ h)

@@ -102,13 +102,18 @@ pub record JudgeCall : Type 0 where
 abbrev pub judgeCall : ℕ → ℕ → ℕ → JudgeCall
 judgeCall n verdict place = record { number = n; verdict = verdict; place = place }
 
-abbrev pub judged : Verdict → JudgeCall
-judged v.Whole = judgeCall 0 0 0
-judged v.Open = judgeCall 0 1 0
-judged (v.Wrong k) = judgeCall 0 2 k
+abbrev pub verdictNumber : Verdict → ℕ
+verdictNumber v.Whole = 0
+verdictNumber v.Open = 1
+verdictNumber (v.Wrong k) = 2
+
+abbrev pub placeOf : Verdict → ℕ
+placeOf v.Whole = 0
+placeOf v.Open = 0
+placeOf (v.Wrong k) = k
 
 abbrev pub judgeAnswered : ℕ → ℕ → Judgement → JudgeCall
-judgeAnswered verdict place (j.Judged w) = judged w
+judgeAnswered verdict place (j.Judged w) = judgeCall 0 (verdictNumber w) (placeOf w)
 judgeAnswered verdict place (j.Refused why) = judgeCall (numberOf why) verdict place
 
 unfoldable pub judgeGives : List ℕ → List ℕ → ℕ → ℕ → JudgeCall

@@ -3,7 +3,7 @@ ghost use mathlib.Core.Path.{_≡_};
 ghost use lib.ListN.{length};
 ghost use Rattle.bridge.specs.Calls.{lent};
 ghost use Rattle.export.specs.Image.{imageSize, imageOf};
-ghost use Rattle.export.specs.Calls.{outcomeNumber, imageAfter, startCall, startGives, stepCall, stepGives, judgeCall, judgeGives, switchCall, switchGives, deviceOf};
+ghost use Rattle.export.specs.Calls.{outcomeNumber, imageAfter, startCall, startGives, stepCall, stepGives, verdictNumber, placeOf, judgeCall, judgeGives, deviceOf, switchNumber, switchCall, switchGives};
 
 mod decoding;
 mod encoding;
@@ -17,6 +17,7 @@ use bridge::Stepped;
 use events::Asked;
 use grammar::Verdict;
 use registers::State;
+use switch_on::Device;
 
 // What a call that was taken gives.
 const TAKEN: u8 = 0;
@@ -97,4 +98,104 @@ pub extern "C" fn bridge_step(
             finish(state, x)
         }
     }
+}
+
+fn verdict_number(v: Verdict) -> u8
+    ensures { λ r. ⌜ r ≡ verdictNumber v ⌝ }
+{
+    match v {
+        Verdict::Whole => 0,
+        Verdict::Open => 1,
+        Verdict::Wrong(_) => 2,
+    }
+}
+
+// The place of a wrong byte, 0 where there is none.
+fn place_of(v: Verdict) -> usize
+    ensures { λ r. ⌜ r ≡ placeOf v ⌝ }
+{
+    match v {
+        Verdict::Whole => 0,
+        Verdict::Open => 0,
+        Verdict::Wrong(k) => k,
+    }
+}
+
+// Judges command bytes from a start.
+#[no_mangle]
+pub extern "C" fn bridge_judge(
+    state: &[u8],
+    bytes: &[u8],
+    verdict: &mut u8,
+    place: &mut usize,
+) -> u8
+    ensures { λ r. ⌜ judgeCall r (now (verdict .exit)) (now (place .exit)) ≡ judgeGives (now (state .entry)) (now (bytes .entry)) (now (verdict .entry)) (now (place .entry)) ⌝ }
+{
+    if !decoding::is_state(state) {
+        return bridge::number(Refusal::Ranges);
+    }
+    let s = decoding::state_of(state);
+    let b = Bridge { state: s };
+    let j = b.judge(bytes);
+    match j {
+        Judgement::Refused(why) => bridge::number(why),
+        Judgement::Judged(v) => {
+            *verdict = verdict_number(v);
+            *place = place_of(v);
+            TAKEN
+        }
+    }
+}
+
+// What the device has besides an image, with its serial number as bytes.
+fn device(cycles: u8, version: u8, serial: u32) -> Device
+    ensures { λ d. ⌜ d ≡ deviceOf cycles version serial ⌝ }
+{
+    let a = (serial % 256) as u8;
+    let b = (serial / 256 % 256) as u8;
+    let c = (serial / 65536 % 256) as u8;
+    let d = (serial / 16777216 % 256) as u8;
+    Device {
+        cycles,
+        version,
+        serial: [a, b, c, d],
+    }
+}
+
+fn switch_number(o: switch_on::Outcome) -> u8
+    ensures { λ r. ⌜ r ≡ switchNumber o ⌝ }
+{
+    match o {
+        switch_on::Outcome::On => TAKEN,
+        switch_on::Outcome::Refused(why) => switch_on::number(why),
+    }
+}
+
+// Switches on from two images of settings.
+#[no_mangle]
+pub extern "C" fn bridge_switch_on<'a>(
+    stored: &'a [u8],
+    factory: &'a [u8],
+    cycles: u8,
+    version: u8,
+    serial: u32,
+    state: &mut [u8],
+    actions: &mut [u8],
+    acted: usize,
+    made: &mut usize,
+) -> u8
+    ensures { λ r. ⌜ switchCall r (now (state .exit)) (now (actions .exit)) (now (made .exit)) ≡ switchGives (now (stored .entry)) (now (factory .entry)) (deviceOf cycles version serial) (now (state .entry)) (now (actions .entry)) acted ⌝ }
+{
+    *made = 0;
+    if state.len() != decoding::SIZE {
+        return bridge::number(Refusal::Ranges);
+    }
+    let d = device(cycles, version, serial);
+    let x = switch_on::switch_on(stored, factory, d, actions, acted);
+    *made = x.actions;
+    let b = x.bridge;
+    let s = b.state;
+    store(state, s);
+    let o = x.outcome;
+    switch_number(o)
 }
