@@ -3,3 +3,4 @@ pub mod Sizes
 pub mod Waits
 pub mod Images
 pub mod Ways
+pub mod Replays

@@ -1,3 +1,4 @@
 pub mod Image
 pub mod Parts
 pub mod Calls
+pub mod Replaying

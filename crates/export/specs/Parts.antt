@@ -1,4 +1,4 @@
--- For the contracts of the parts of an image as they are written: the bytes, and the sizes of the arrays, which their types give.
+-- For the contracts of an image and its parts as they are written: the bytes, and the sizes of the arrays, which their types give.
 use Prim.Native.Nat.{ℕ}
 use mathlib.Core.Path.{_≡_}
 use mathlib.Core.List.{List}
@@ -27,4 +27,9 @@ pub record WaitPut (w : Wait) (held : List ℕ) (at : ℕ) (o x : List ℕ) (n :
 
 pub record ImagePut (s : State) (o x : List ℕ) (n : ℕ) : Type 0 where
   pub wrote : Written o 0 (imageOf s) x n
+  pub sized : Whole s
+
+-- the image is a state's
+pub record Stored (s : State) (x : List ℕ) : Type 0 where
+  pub image : x ≡ imageOf s
   pub sized : Whole s

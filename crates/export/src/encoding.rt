@@ -73,11 +73,11 @@ fn wait_left(w: Wait) -> u8
     }
 }
 
-// The configured mark as a byte.
-fn mark(configured: bool) -> u8
-    ensures { λ n. ⌜ n ≡ cond configured 1 0 ⌝ }
+// A mark as a byte.
+pub(crate) fn mark(set: bool) -> u8
+    ensures { λ n. ⌜ n ≡ cond set 1 0 ⌝ }
 {
-    if configured { 1 } else { 0 }
+    if set { 1 } else { 0 }
 }
 
 // An array that is a field is lent from a parameter: the packet register, the timings, and what is held.

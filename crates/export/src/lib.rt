@@ -2,8 +2,10 @@
 ghost use mathlib.Core.Path.{_≡_};
 ghost use lib.ListN.{length};
 ghost use Rattle.bridge.specs.Calls.{lent};
-ghost use Rattle.export.specs.Image.{imageSize, imageOf};
+ghost use Rattle.export.specs.Image.{imageSize};
+ghost use Rattle.export.specs.Parts.{Stored};
 ghost use Rattle.export.specs.Calls.{outcomeNumber, imageAfter, startCall, startGives, stepCall, stepGives, verdictNumber, placeOf, judgeCall, judgeGives, deviceOf, switchNumber, switchCall, switchGives};
+ghost use Rattle.export.specs.Replaying.{held, Replays};
 
 mod decoding;
 mod encoding;
@@ -17,6 +19,7 @@ use bridge::Stepped;
 use events::Asked;
 use grammar::Verdict;
 use registers::State;
+use session::replay::Cursor;
 use switch_on::Device;
 
 // What a call that was taken gives.
@@ -25,7 +28,7 @@ const TAKEN: u8 = 0;
 // The state goes to an image. The caller shows that this has an image's size.
 fn store(image: &mut [u8], s: State)
     requires { ⌜ length (now image) ≡ imageSize ⌝ }
-    ensures { λ _. ⌜ now (image .exit) ≡ imageOf s ⌝ }
+    ensures { λ _. ⌜ Stored s (now (image .exit)) ⌝ }
 {
     encoding::put_image(image, s);
 }
@@ -198,4 +201,47 @@ pub extern "C" fn bridge_switch_on<'a>(
     store(state, s);
     let o = x.outcome;
     switch_number(o)
+}
+
+// Replays a session as far as surely fits into the output; the cursor is changed to where to go on.
+#[no_mangle]
+pub extern "C" fn bridge_replay(
+    state: &mut [u8],
+    at: &mut usize,
+    end: &mut usize,
+    sample: &mut usize,
+    sampled: &mut usize,
+    done: &mut u8,
+    session: &[u8],
+    output: &mut [u8],
+    written: &mut usize,
+) -> u8
+    ensures { λ r. ⌜ Replays (now (session .entry)) (held (now (state .entry)) (now (at .entry)) (now (end .entry)) (now (sample .entry)) (now (sampled .entry)) (now (done .entry))) (now (output .entry)) r (held (now (state .exit)) (now (at .exit)) (now (end .exit)) (now (sample .exit)) (now (sampled .exit)) (now (done .exit))) (now (output .exit)) (now (written .exit)) ⌝ }
+{
+    *written = 0;
+    if !decoding::is_state(state) {
+        return bridge::number(Refusal::Ranges);
+    }
+    let s = decoding::state_of(state);
+    let bridge = Bridge { state: s };
+    let c = Cursor {
+        bridge,
+        at: *at,
+        end: *end,
+        sample: *sample,
+        sampled: *sampled,
+        done: *done != 0,
+    };
+    let r = session::replay::run(c, session, output);
+    let next = r.cursor;
+    *at = next.at;
+    *end = next.end;
+    *sample = next.sample;
+    *sampled = next.sampled;
+    *done = encoding::mark(next.done);
+    *written = r.written;
+    let b = next.bridge;
+    let t = b.state;
+    store(state, t);
+    TAKEN
 }

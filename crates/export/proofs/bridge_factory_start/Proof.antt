@@ -13,4 +13,4 @@ bridge-factory-start-spec =
     (λ c κs. search needs)
     (λ c κs. search needs)
     (λ c. search needs)
-    (λ c. started (c .before .before .before .before .before .before .before .before .args .state .now) (c .before .before .before .before .before .before .if1 .left) (c .before .before .before .before .before .factory-start .ensures) (c .before .before .store .ensures)))
+    (λ c. started (c .before .before .before .before .before .before .before .before .args .state .now) (c .before .before .before .before .before .before .if1 .left) (c .before .before .before .before .before .factory-start .ensures) (c .before .before .store .ensures .image)))

@@ -21,4 +21,4 @@ bridge-switch-on-spec =
     (λ c. search needs)
     (λ c.
     let s = c .before .before .before .before .before .before .before .before .before .before .before .before .before .before .before .before .before in
-    switch-answers (s .args .state .now) (s .args .stored .now) (s .args .factory .now) (deviceOf (s .args .cycles) (s .args .version) (s .args .serial)) (s .args .actions .now) (s .args .acted) (c .before .before .before .before .before .before .before .before .before .before .before .before .if1 .left) (c .before .before .before .before .before .before .before .before .before .before .before .device .ensures) (c .before .before .before .before .before .before .before .before .before .switch-on .ensures) (c .before .before .before .store .ensures) (c .switch-number .ensures)))
+    switch-answers (s .args .state .now) (s .args .stored .now) (s .args .factory .now) (deviceOf (s .args .cycles) (s .args .version) (s .args .serial)) (s .args .actions .now) (s .args .acted) (c .before .before .before .before .before .before .before .before .before .before .before .before .if1 .left) (c .before .before .before .before .before .before .before .before .before .before .before .device .ensures) (c .before .before .before .before .before .before .before .before .before .switch-on .ensures) (c .before .before .before .store .ensures .image) (c .switch-number .ensures)))

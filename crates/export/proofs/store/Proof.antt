@@ -16,4 +16,4 @@ store-spec =
     (λ c.
     let s = c .before .before .before .before .before in
     let w = c .before .before .put-image .ensures in
-    written-whole (s .args .image .now) (imageOf (s .args .s)) (s .pre ∙ sym (image-size (s .args .s) (w .sized))) (w .wrote)))
+    record { image = written-whole (s .args .image .now) (imageOf (s .args .s)) (s .pre ∙ sym (image-size (s .args .s) (w .sized))) (w .wrote); sized = w .sized }))
