@@ -10,8 +10,8 @@ use lib.ListN.{getD, length, take, drop, length-append, length-drop}
 use lib.Seq.{take-all}
 use Rattle.packet.specs.Packet.{registerBytes}
 use Rattle.registers.specs.declared.State.{State}
-use Rattle.export.specs.Image.{atConfigured, atPacket, atTimings, atEprom, atCycles, atVersion, atSerial, atWait, atLeft, atHeld, heldBytes, imageSize, waitCode, waitLeft, waitOf, part, imageOf, stateIn, isState, Whole, ImageOfState, StateOfImage}
-use Rattle.export.proofs.Parts.{part-is, byte-is, part-first, bytesAt, bytes-first}
+use Rattle.export.specs.Image.{atConfigured, atPacket, atTimings, atEprom, atCycles, atVersion, atSerial, atWait, atLeft, atHeld, heldBytes, imageSize, waitCode, waitLeft, waitOf, piece, imageOf, stateIn, isState, AllSized, ImageOfState, StateOfImage}
+use Rattle.export.proofs.Parts.{piece-is, byte-is, piece-first, bytesAt, bytes-first}
 use Rattle.export.proofs.Waits.{Numbered, wait-numbered, code-back, left-back}
 
 -- THE PARTS IN A ROW: registers, packet register, timings; EPROM, cycles and version, serial number; wait and left, held
@@ -29,14 +29,14 @@ module _ (r p t e n h : List ℕ) (cycles version code left : ℕ) (sr : length 
   row-size : length i ≡ imageSize
   row-size = simp length-append (omega arith)
 
-  row-packet : part i atPacket registerBytes ≡ p
-  row-packet = part-is i r p (t ++ (e ++ ((cycles ∷ version ∷ []) ++ (n ++ ((code ∷ left ∷ []) ++ h))))) atPacket registerBytes (regroup r p t e (cycles ∷ version ∷ []) n (code ∷ left ∷ []) h) sr sp
+  row-packet : piece i atPacket registerBytes ≡ p
+  row-packet = piece-is i r p (t ++ (e ++ ((cycles ∷ version ∷ []) ++ (n ++ ((code ∷ left ∷ []) ++ h))))) atPacket registerBytes (regroup r p t e (cycles ∷ version ∷ []) n (code ∷ left ∷ []) h) sr sp
 
-  row-timings : part i atTimings 9 ≡ t
-  row-timings = part-is i (r ++ p) t (e ++ ((cycles ∷ version ∷ []) ++ (n ++ ((code ∷ left ∷ []) ++ h)))) atTimings 9 (simp append-assoc) (simp length-append (omega arith)) st
+  row-timings : piece i atTimings 9 ≡ t
+  row-timings = piece-is i (r ++ p) t (e ++ ((cycles ∷ version ∷ []) ++ (n ++ ((code ∷ left ∷ []) ++ h)))) atTimings 9 (simp append-assoc) (simp length-append (omega arith)) st
 
-  row-eprom : part i atEprom 10 ≡ e
-  row-eprom = part-is i (r ++ p ++ t) e ((cycles ∷ version ∷ []) ++ (n ++ ((code ∷ left ∷ []) ++ h))) atEprom 10 (simp append-assoc) (simp length-append (omega arith)) se
+  row-eprom : piece i atEprom 10 ≡ e
+  row-eprom = piece-is i (r ++ p ++ t) e ((cycles ∷ version ∷ []) ++ (n ++ ((code ∷ left ∷ []) ++ h))) atEprom 10 (simp append-assoc) (simp length-append (omega arith)) se
 
   row-cycles : getD i atCycles 0 ≡ cycles
   row-cycles = byte-is i (r ++ p ++ t ++ e) cycles ((version ∷ []) ++ (n ++ ((code ∷ left ∷ []) ++ h))) atCycles (simp append-assoc) (simp length-append (omega arith))
@@ -44,8 +44,8 @@ module _ (r p t e n h : List ℕ) (cycles version code left : ℕ) (sr : length 
   row-version : getD i atVersion 0 ≡ version
   row-version = byte-is i (r ++ p ++ t ++ e ++ (cycles ∷ [])) version (n ++ ((code ∷ left ∷ []) ++ h)) atVersion (simp append-assoc) (simp length-append (omega arith))
 
-  row-serial : part i atSerial 4 ≡ n
-  row-serial = part-is i (r ++ p ++ t ++ e ++ (cycles ∷ version ∷ [])) n ((code ∷ left ∷ []) ++ h) atSerial 4 (simp append-assoc) (simp length-append (omega arith)) sn
+  row-serial : piece i atSerial 4 ≡ n
+  row-serial = piece-is i (r ++ p ++ t ++ e ++ (cycles ∷ version ∷ [])) n ((code ∷ left ∷ []) ++ h) atSerial 4 (simp append-assoc) (simp length-append (omega arith)) sn
 
   row-code : getD i atWait 0 ≡ code
   row-code = byte-is i (r ++ p ++ t ++ e ++ (cycles ∷ version ∷ []) ++ n) code ((left ∷ []) ++ h) atWait (simp append-assoc) (simp length-append (omega arith))
@@ -53,9 +53,9 @@ module _ (r p t e n h : List ℕ) (cycles version code left : ℕ) (sr : length 
   row-left : getD i atLeft 0 ≡ left
   row-left = byte-is i (r ++ p ++ t ++ e ++ (cycles ∷ version ∷ []) ++ n ++ (code ∷ [])) left h atLeft (simp append-assoc) (simp length-append (omega arith))
 
-  row-held : part i atHeld heldBytes ≡ h
+  row-held : piece i atHeld heldBytes ≡ h
   row-held =
-      part-is i (r ++ p ++ t ++ e ++ (cycles ∷ version ∷ []) ++ n ++ (code ∷ left ∷ [])) h [] atHeld heldBytes (simp (append-assoc, append-nil)) (simp length-append (omega arith)) sh
+      piece-is i (r ++ p ++ t ++ e ++ (cycles ∷ version ∷ []) ++ n ++ (code ∷ left ∷ [])) h [] atHeld heldBytes (simp (append-assoc, append-nil)) (simp length-append (omega arith)) sh
 
 -- THE IMAGE OF A STATE is a state's, this one's
 mark-back : (b : Bool) → eqb (cond b 1 0) 1 ≡ b
@@ -66,7 +66,7 @@ mark-known : (b : Bool) → leb (cond b 1 0) 1 ≡ true
 mark-known true = refl
 mark-known false = refl
 
-module _ (s : State) (w : Whole s) where
+module _ (s : State) (w : AllSized s) where
   abbrev front : List ℕ
   front = s .page .flags ∷ s .page .error ∷ s .page .ddrb ∷ s .page .portb ∷ s .page .ddrc ∷ s .page .portc ∷ s .page .ddrd ∷ s .page .portd ∷ s .page .config ∷ cond (s .page .configured) 1 0 ∷ s .page .size ∷ []
 
@@ -133,15 +133,15 @@ mark-of (suc zero) h = refl
 mark-of (suc (suc m)) h = absurd (omega arith)
 
 -- an image is its parts, one after another
-joined : (i : List ℕ) → length i ≡ imageSize → i ≡ bytesAt i 0 11 ++ (part i atPacket registerBytes ++ (part i atTimings 9 ++ (part i atEprom 10 ++ (bytesAt i atCycles 2 ++ (part i atSerial 4 ++ (bytesAt i atWait 2 ++ part i atHeld heldBytes))))))
+joined : (i : List ℕ) → length i ≡ imageSize → i ≡ bytesAt i 0 11 ++ (piece i atPacket registerBytes ++ (piece i atTimings 9 ++ (piece i atEprom 10 ++ (bytesAt i atCycles 2 ++ (piece i atSerial 4 ++ (bytesAt i atWait 2 ++ piece i atHeld heldBytes))))))
 joined i e =
-    let held : drop atHeld i ≡ part i atHeld heldBytes = sym (take-all heldBytes (drop atHeld i) (simp length-drop (omega arith))) in
+    let held : drop atHeld i ≡ piece i atHeld heldBytes = sym (take-all heldBytes (drop atHeld i) (simp length-drop (omega arith))) in
     let wait = bytes-first i atWait 2 (omega arith) ∙ ap (λ (r : List ℕ). bytesAt i atWait 2 ++ r) held in
-    let serial = part-first i atSerial 4 ∙ ap (λ (r : List ℕ). part i atSerial 4 ++ r) wait in
+    let serial = piece-first i atSerial 4 ∙ ap (λ (r : List ℕ). piece i atSerial 4 ++ r) wait in
     let cycles = bytes-first i atCycles 2 (omega arith) ∙ ap (λ (r : List ℕ). bytesAt i atCycles 2 ++ r) serial in
-    let eprom = part-first i atEprom 10 ∙ ap (λ (r : List ℕ). part i atEprom 10 ++ r) cycles in
-    let timings = part-first i atTimings 9 ∙ ap (λ (r : List ℕ). part i atTimings 9 ++ r) eprom in
-    let packet = part-first i atPacket registerBytes ∙ ap (λ (r : List ℕ). part i atPacket registerBytes ++ r) timings in
+    let eprom = piece-first i atEprom 10 ∙ ap (λ (r : List ℕ). piece i atEprom 10 ++ r) cycles in
+    let timings = piece-first i atTimings 9 ∙ ap (λ (r : List ℕ). piece i atTimings 9 ++ r) eprom in
+    let packet = piece-first i atPacket registerBytes ∙ ap (λ (r : List ℕ). piece i atPacket registerBytes ++ r) timings in
     bytes-first i 0 11 (omega arith) ∙ ap (λ (r : List ℕ). bytesAt i 0 11 ++ r) packet
 
 pub state-of-image : (i : List ℕ) → StateOfImage i
@@ -151,4 +151,4 @@ state-of-image i e =
     let code = code-back (getD i atWait 0) (getD i atLeft 0) (g .code) in
     let left = left-back (getD i atWait 0) (getD i atLeft 0) (g .code) (g .left) in
     let mark = mark-of (getD i atConfigured 0) (g .mark) in
-    rw (mark, code, left) (regroup (bytesAt i 0 11) (part i atPacket registerBytes) (part i atTimings 9) (part i atEprom 10) (bytesAt i atCycles 2) (part i atSerial 4) (bytesAt i atWait 2) (part i atHeld heldBytes) ∙ sym (joined i (g .size)))
+    rw (mark, code, left) (regroup (bytesAt i 0 11) (piece i atPacket registerBytes) (piece i atTimings 9) (piece i atEprom 10) (bytesAt i atCycles 2) (piece i atSerial 4) (bytesAt i atWait 2) (piece i atHeld heldBytes) ∙ sym (joined i (g .size)))

@@ -8,7 +8,7 @@ use Rattle.registers.specs.declared.Page.{Page}
 use Rattle.registers.specs.declared.Shared.{Shared}
 use Rattle.registers.specs.declared.State.{State}
 use Rattle.wire.specs.Buffer.{Written}
-use Rattle.export.specs.Image.{atEprom, atWait, imageSize, pageBytes, sharedBytes, waitBytes, imageOf, Whole}
+use Rattle.export.specs.Image.{atEprom, atWait, imageSize, pageBytes, sharedBytes, waitBytes, imageOf, AllSized}
 use Rattle.export.specs.Parts.{PagePut, SharedPut}
 use Rattle.export.proofs.Parts.{written-whole}
 
@@ -18,7 +18,7 @@ page-end p w = omega (arith, w .wrote .after, length-append (p .packet) (p .timi
 pub shared-end : (h : Shared) {at : ℕ} {o x : List ℕ} {n : ℕ} → at ≡ atEprom → SharedPut h at o x n → n ≡ atWait
 shared-end h e w = omega (arith, w .wrote .after, length-append (h .eprom ++ (h .cycles ∷ h .version ∷ [])) (h .serial), length-append (h .eprom) (h .cycles ∷ h .version ∷ []), w .eprom, w .serial)
 
-pub image-size : (s : State) → Whole s → length (imageOf s) ≡ imageSize
+pub image-size : (s : State) → AllSized s → length (imageOf s) ≡ imageSize
 unfolding imageOf
 image-size s w =
     simp length-append (omega (arith, w .registers .packet, w .registers .timings, w .registers .eprom, w .registers .serial, w .held))

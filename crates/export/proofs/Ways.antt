@@ -24,7 +24,7 @@ use Rattle.records.specs.Records as r
 use Rattle.records.specs.declared.Refusal as why
 use Rattle.export.specs.Image.{imageSize, imageOf, stateIn, isState}
 use Rattle.export.specs.Calls.{Asked, startCall, startGives, StepCall, stepCall, eventAsked, outcomeNumber, imageAfter, stepAnswered, stepGives, judgeCall, verdictNumber, placeOf, judgeAnswered, judgeGives, switchCall, switchNumber, switchAnswered, switchGives}
-use Rattle.export.specs.declared.events.Asked.the-variants as a
+use Rattle.export.specs.declared.arguments.Asked.the-variants as a
 
 module _ (image : List ℕ) where
   pub start-refused : (length image ≡ imageSize → ⊥) → {n : ℕ} → n ≡ numberOf Ranges → startCall n image ≡ startGives image

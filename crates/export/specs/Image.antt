@@ -107,8 +107,8 @@ unfoldable pub imageOf : State → List ℕ
 imageOf s = pageBytes (s .page) ++ sharedBytes (s .shared) ++ waitBytes (s .wait) (s .held)
 
 -- THE STATE of an image
-abbrev pub part : List ℕ → ℕ → ℕ → List ℕ
-part i at size = take size (drop at i)
+abbrev pub piece : List ℕ → ℕ → ℕ → List ℕ
+piece i at size = take size (drop at i)
 
 abbrev pub pageIn : List ℕ → Page
 pageIn i = record {
@@ -123,12 +123,12 @@ pageIn i = record {
   config = getD i 8 0;
   configured = eqb (getD i atConfigured 0) 1;
   size = getD i 10 0;
-  packet = part i atPacket registerBytes;
-  timings = part i atTimings 9;
+  packet = piece i atPacket registerBytes;
+  timings = piece i atTimings 9;
 }
 
 abbrev pub sharedIn : List ℕ → Shared
-sharedIn i = record { eprom = part i atEprom 10; cycles = getD i atCycles 0; version = getD i atVersion 0; serial = part i atSerial 4 }
+sharedIn i = record { eprom = piece i atEprom 10; cycles = getD i atCycles 0; version = getD i atVersion 0; serial = piece i atSerial 4 }
 
 abbrev pub waitTable : ℕ → List (Entry Wait)
 waitTable left =
@@ -141,7 +141,7 @@ abbrev pub waitOf : ℕ → ℕ → Wait
 waitOf code left = lookup Nothing code (waitTable left)
 
 unfoldable pub stateIn : List ℕ → State
-stateIn i = record { page = pageIn i; shared = sharedIn i; wait = waitOf (getD i atWait 0) (getD i atLeft 0); held = part i atHeld heldBytes }
+stateIn i = record { page = pageIn i; shared = sharedIn i; wait = waitOf (getD i atWait 0) (getD i atLeft 0); held = piece i atHeld heldBytes }
 
 -- "Another length, a byte at 9 that is not 0 or 1, a byte at 44 over 17, or one at 45 that is not 0 with a wait of 0 to 14, is no
 -- state"
@@ -149,12 +149,12 @@ unfoldable pub isState : List ℕ → Bool
 isState i = eqb (length i) imageSize && (leb (getD i atConfigured 0) 1 && leb (getD i atWait 0) 17 && (leb 15 (getD i atWait 0) || eqb (getD i atLeft 0) 0))
 
 -- THEOREM (proofs/Images.antt, `image-of-state`): the image of a state whose arrays have their sizes is a state's, this one's
-pub record Whole (s : State) : Type 0 where
+pub record AllSized (s : State) : Type 0 where
   pub registers : Sized s
   pub held : length (s .held) ≡ heldBytes
 
 abbrev pub ImageOfState : State → Type 0
-ImageOfState s = Whole s → (isState (imageOf s) ≡ true) × (stateIn (imageOf s) ≡ s)
+ImageOfState s = AllSized s → (isState (imageOf s) ≡ true) × (stateIn (imageOf s) ≡ s)
 
 -- THEOREM (proofs/Images.antt, `state-of-image`): what a state's image stands for has that image
 abbrev pub StateOfImage : List ℕ → Type 0

@@ -9,7 +9,7 @@ use Rattle.registers.specs.declared.Page.{Page}
 use Rattle.registers.specs.declared.Shared.{Shared}
 use Rattle.registers.specs.declared.Wait.{Wait}
 use Rattle.registers.specs.declared.State.{State}
-use Rattle.export.specs.Image.{pageBytes, sharedBytes, waitBytes, imageOf, heldBytes, Whole}
+use Rattle.export.specs.Image.{pageBytes, sharedBytes, waitBytes, imageOf, heldBytes, AllSized}
 
 pub record PagePut (p : Page) (o x : List ℕ) (n : ℕ) : Type 0 where
   pub wrote : Written o 0 (pageBytes p) x n
@@ -27,9 +27,9 @@ pub record WaitPut (w : Wait) (held : List ℕ) (at : ℕ) (o x : List ℕ) (n :
 
 pub record ImagePut (s : State) (o x : List ℕ) (n : ℕ) : Type 0 where
   pub wrote : Written o 0 (imageOf s) x n
-  pub sized : Whole s
+  pub sized : AllSized s
 
 -- the image is a state's
 pub record Stored (s : State) (x : List ℕ) : Type 0 where
   pub image : x ≡ imageOf s
-  pub sized : Whole s
+  pub sized : AllSized s

@@ -13,7 +13,7 @@ use Rattle.export.specs.Image.{isState}
 use Rattle.export.specs.Calls.{bridgeIn}
 
 -- the cursor as C holds it: "the state and five numbers"
-pub record Held : Type 0 where
+pub record Behind : Type 0 where
   pub state : List ℕ
   pub at : ℕ
   pub end : ℕ
@@ -21,16 +21,16 @@ pub record Held : Type 0 where
   pub sampled : ℕ
   pub done : ℕ
 
-abbrev pub held : List ℕ → ℕ → ℕ → ℕ → ℕ → ℕ → Held
-held image at end sample sampled done = record { state = image; at = at; end = end; sample = sample; sampled = sampled; done = done }
+abbrev pub behind : List ℕ → ℕ → ℕ → ℕ → ℕ → ℕ → Behind
+behind image at end sample sampled done = record { state = image; at = at; end = end; sample = sample; sampled = sampled; done = done }
 
 -- "the replay is over when `done` is not 0"
-abbrev pub cursorIn : Held → Cursor
+abbrev pub cursorIn : Behind → Cursor
 cursorIn h = record { bridge = bridgeIn (h .state); at = h .at; end = h .end; sample = h .sample; sampled = h .sampled; done = not (eqb (h .done) 0) }
 
 -- a call on a session from a cursor h, with an output that held o: its number, the cursor h′ and the output x that it leaves, and
 -- how many bytes were written
-pub record Replays (session : List ℕ) (h : Held) (o : List ℕ) (number : ℕ) (h′ : Held) (x : List ℕ) (written : ℕ) : Type 0 where
+pub record Replays (session : List ℕ) (h : Behind) (o : List ℕ) (number : ℕ) (h′ : Behind) (x : List ℕ) (written : ℕ) : Type 0 where
   -- "1 if the image is no state"
   pub refused : isState (h .state) ≡ false → (number ≡ numberOf Ranges) × (h′ ≡ h) × (x ≡ o) × (written ≡ 0)
   -- else the run's promises, from the cursor that was held to the one that is

@@ -4,7 +4,7 @@ ghost use mathlib.Core.Bool.{true};
 ghost use Prim.Native.Nat.{_+_, _≤_};
 ghost use lib.ListN.{length};
 ghost use Rattle.packet.specs.Packet.{registerBytes};
-ghost use Rattle.export.specs.Image.{heldBytes, imageSize, part, waitOf, pageIn, sharedIn, stateIn, isState};
+ghost use Rattle.export.specs.Image.{heldBytes, imageSize, piece, waitOf, pageIn, sharedIn, stateIn, isState};
 use registers::Operand;
 use registers::Page;
 use registers::PortRegister;
@@ -71,7 +71,7 @@ fn wait_of(code: u8, left: u8) -> Wait
 // A part of an image as an array, one function for each size. The caller shows that it lies within the image.
 fn packet_at(i: &[u8], at: usize) -> packet::Register
     requires { ⌜ at + registerBytes ≤ length (now i) ⌝ }
-    ensures { λ r. ⌜ r ≡ part (now (i .entry)) at registerBytes ⌝ }
+    ensures { λ r. ⌜ r ≡ piece (now (i .entry)) at registerBytes ⌝ }
 {
     let mut r = [0u8; packet::BYTES];
     let end = at + packet::BYTES;
@@ -81,7 +81,7 @@ fn packet_at(i: &[u8], at: usize) -> packet::Register
 
 fn timings_at(i: &[u8], at: usize) -> [u8; registers::TIMINGS]
     requires { ⌜ at + 9 ≤ length (now i) ⌝ }
-    ensures { λ r. ⌜ r ≡ part (now (i .entry)) at 9 ⌝ }
+    ensures { λ r. ⌜ r ≡ piece (now (i .entry)) at 9 ⌝ }
 {
     let mut r = [0u8; registers::TIMINGS];
     let end = at + registers::TIMINGS;
@@ -91,7 +91,7 @@ fn timings_at(i: &[u8], at: usize) -> [u8; registers::TIMINGS]
 
 fn eprom_at(i: &[u8], at: usize) -> [u8; 10]
     requires { ⌜ at + 10 ≤ length (now i) ⌝ }
-    ensures { λ r. ⌜ r ≡ part (now (i .entry)) at 10 ⌝ }
+    ensures { λ r. ⌜ r ≡ piece (now (i .entry)) at 10 ⌝ }
 {
     let mut r = [0u8; 10];
     let end = at + 10;
@@ -101,7 +101,7 @@ fn eprom_at(i: &[u8], at: usize) -> [u8; 10]
 
 fn serial_at(i: &[u8], at: usize) -> [u8; 4]
     requires { ⌜ at + 4 ≤ length (now i) ⌝ }
-    ensures { λ r. ⌜ r ≡ part (now (i .entry)) at 4 ⌝ }
+    ensures { λ r. ⌜ r ≡ piece (now (i .entry)) at 4 ⌝ }
 {
     let mut r = [0u8; 4];
     let end = at + 4;
@@ -111,7 +111,7 @@ fn serial_at(i: &[u8], at: usize) -> [u8; 4]
 
 fn held_at(i: &[u8], at: usize) -> [u8; registers::HELD]
     requires { ⌜ at + heldBytes ≤ length (now i) ⌝ }
-    ensures { λ r. ⌜ r ≡ part (now (i .entry)) at heldBytes ⌝ }
+    ensures { λ r. ⌜ r ≡ piece (now (i .entry)) at heldBytes ⌝ }
 {
     let mut r = [0u8; registers::HELD];
     let end = at + registers::HELD;

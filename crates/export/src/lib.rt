@@ -1,37 +1,19 @@
-// What C links: include/bridge.h. A state goes by its image, and every other answer by a pointer.
+// What C links: include/bridge.h. A state goes by its image, and every answer but the number by a pointer.
 ghost use mathlib.Core.Path.{_≡_};
-ghost use lib.ListN.{length};
 ghost use Rattle.bridge.specs.Calls.{lent};
-ghost use Rattle.export.specs.Image.{imageSize};
-ghost use Rattle.export.specs.Parts.{Stored};
-ghost use Rattle.export.specs.Calls.{outcomeNumber, imageAfter, startCall, startGives, stepCall, stepGives, verdictNumber, placeOf, judgeCall, judgeGives, deviceOf, switchNumber, switchCall, switchGives};
-ghost use Rattle.export.specs.Replaying.{held, Replays};
+ghost use Rattle.export.specs.Calls.{startCall, startGives, stepCall, stepGives, judgeCall, judgeGives, deviceOf, switchCall, switchGives};
+ghost use Rattle.export.specs.Replaying.{behind, Replays};
 
+mod answers;
+mod arguments;
 mod decoding;
 mod encoding;
-mod events;
 
+use answers::TAKEN;
+use arguments::Asked;
 use bridge::Bridge;
 use bridge::Judgement;
-use bridge::Outcome;
 use bridge::Refusal;
-use bridge::Stepped;
-use events::Asked;
-use grammar::Verdict;
-use registers::State;
-use session::replay::Cursor;
-use switch_on::Device;
-
-// What a call that was taken gives.
-const TAKEN: u8 = 0;
-
-// The state goes to an image. The caller shows that this has an image's size.
-fn store(image: &mut [u8], s: State)
-    requires { ⌜ length (now image) ≡ imageSize ⌝ }
-    ensures { λ _. ⌜ Stored s (now (image .exit)) ⌝ }
-{
-    encoding::put_image(image, s);
-}
 
 // The state that every session starts with goes to the image.
 #[no_mangle]
@@ -43,25 +25,8 @@ pub extern "C" fn bridge_factory_start(state: &mut [u8]) -> u8
     }
     let b = switch_on::factory_start();
     let s = b.state;
-    store(state, s);
+    answers::store(state, s);
     TAKEN
-}
-
-// The number of an answer; the new state of a call that was taken goes to the image.
-fn finish(image: &mut [u8], x: Stepped) -> u8
-    requires { ⌜ length (now image) ≡ imageSize ⌝ }
-    ensures { λ r. ⌜ (r ≡ outcomeNumber (x .outcome)) × (now (image .exit) ≡ imageAfter (x .outcome) (x .bridge .state) (now (image .entry))) ⌝ }
-{
-    let o = x.outcome;
-    match o {
-        Outcome::Taken => {
-            let b = x.bridge;
-            let s = b.state;
-            store(image, s);
-            TAKEN
-        }
-        Outcome::Refused(why) => bridge::number(why),
-    }
 }
 
 // One event, by its kind and its value.
@@ -88,7 +53,7 @@ pub extern "C" fn bridge_step(
     if !decoding::is_state(state) {
         return bridge::number(Refusal::Ranges);
     }
-    let asked = events::event_of(kind, value);
+    let asked = arguments::event_of(kind, value);
     match asked {
         Asked::Refused(why) => records::number(why),
         Asked::Event(event) => {
@@ -98,29 +63,8 @@ pub extern "C" fn bridge_step(
             *used = x.samples;
             *sent = x.replies;
             *made = x.actions;
-            finish(state, x)
+            answers::finish(state, x)
         }
-    }
-}
-
-fn verdict_number(v: Verdict) -> u8
-    ensures { λ r. ⌜ r ≡ verdictNumber v ⌝ }
-{
-    match v {
-        Verdict::Whole => 0,
-        Verdict::Open => 1,
-        Verdict::Wrong(_) => 2,
-    }
-}
-
-// The place of a wrong byte, 0 where there is none.
-fn place_of(v: Verdict) -> usize
-    ensures { λ r. ⌜ r ≡ placeOf v ⌝ }
-{
-    match v {
-        Verdict::Whole => 0,
-        Verdict::Open => 0,
-        Verdict::Wrong(k) => k,
     }
 }
 
@@ -143,34 +87,10 @@ pub extern "C" fn bridge_judge(
     match j {
         Judgement::Refused(why) => bridge::number(why),
         Judgement::Judged(v) => {
-            *verdict = verdict_number(v);
-            *place = place_of(v);
+            *verdict = answers::verdict_number(v);
+            *place = answers::place_of(v);
             TAKEN
         }
-    }
-}
-
-// What the device has besides an image, with its serial number as bytes.
-fn device(cycles: u8, version: u8, serial: u32) -> Device
-    ensures { λ d. ⌜ d ≡ deviceOf cycles version serial ⌝ }
-{
-    let a = (serial % 256) as u8;
-    let b = (serial / 256 % 256) as u8;
-    let c = (serial / 65536 % 256) as u8;
-    let d = (serial / 16777216 % 256) as u8;
-    Device {
-        cycles,
-        version,
-        serial: [a, b, c, d],
-    }
-}
-
-fn switch_number(o: switch_on::Outcome) -> u8
-    ensures { λ r. ⌜ r ≡ switchNumber o ⌝ }
-{
-    match o {
-        switch_on::Outcome::On => TAKEN,
-        switch_on::Outcome::Refused(why) => switch_on::number(why),
     }
 }
 
@@ -193,14 +113,14 @@ pub extern "C" fn bridge_switch_on<'a>(
     if state.len() != decoding::SIZE {
         return bridge::number(Refusal::Ranges);
     }
-    let d = device(cycles, version, serial);
+    let d = arguments::device(cycles, version, serial);
     let x = switch_on::switch_on(stored, factory, d, actions, acted);
     *made = x.actions;
     let b = x.bridge;
     let s = b.state;
-    store(state, s);
+    answers::store(state, s);
     let o = x.outcome;
-    switch_number(o)
+    answers::switch_number(o)
 }
 
 // Replays a session as far as surely fits into the output; the cursor is changed to where to go on.
@@ -216,22 +136,13 @@ pub extern "C" fn bridge_replay(
     output: &mut [u8],
     written: &mut usize,
 ) -> u8
-    ensures { λ r. ⌜ Replays (now (session .entry)) (held (now (state .entry)) (now (at .entry)) (now (end .entry)) (now (sample .entry)) (now (sampled .entry)) (now (done .entry))) (now (output .entry)) r (held (now (state .exit)) (now (at .exit)) (now (end .exit)) (now (sample .exit)) (now (sampled .exit)) (now (done .exit))) (now (output .exit)) (now (written .exit)) ⌝ }
+    ensures { λ r. ⌜ Replays (now (session .entry)) (behind (now (state .entry)) (now (at .entry)) (now (end .entry)) (now (sample .entry)) (now (sampled .entry)) (now (done .entry))) (now (output .entry)) r (behind (now (state .exit)) (now (at .exit)) (now (end .exit)) (now (sample .exit)) (now (sampled .exit)) (now (done .exit))) (now (output .exit)) (now (written .exit)) ⌝ }
 {
     *written = 0;
     if !decoding::is_state(state) {
         return bridge::number(Refusal::Ranges);
     }
-    let s = decoding::state_of(state);
-    let bridge = Bridge { state: s };
-    let c = Cursor {
-        bridge,
-        at: *at,
-        end: *end,
-        sample: *sample,
-        sampled: *sampled,
-        done: *done != 0,
-    };
+    let c = arguments::cursor_of(state, *at, *end, *sample, *sampled, *done);
     let r = session::replay::run(c, session, output);
     let next = r.cursor;
     *at = next.at;
@@ -242,6 +153,6 @@ pub extern "C" fn bridge_replay(
     *written = r.written;
     let b = next.bridge;
     let t = b.state;
-    store(state, t);
+    answers::store(state, t);
     TAKEN
 }

@@ -2,7 +2,7 @@
 use borrow.Author.Needs.{needs}
 use mathlib.Core.Path.{refl}
 use Rattle.packet.specs.Packet.{registerBytes}
-use Rattle.export.proofs.Parts.{part-copied}
+use Rattle.export.proofs.Parts.{piece-copied}
 use Rattle.export.proofs.decoding.packet_at.Statement.{statement}
 use Rattle.export.proofs.decoding.packet_at.Tie as tie
 
@@ -18,4 +18,4 @@ packet-at-spec =
     (λ c κs. search needs)
     (λ c.
     let s = c .before .before .before .before .before in
-    part-copied (s .args .i .now) _ (s .args .at) registerBytes refl (s .pre) (c .before .put-bytes .ensures)))
+    piece-copied (s .args .i .now) _ (s .args .at) registerBytes refl (s .pre) (c .before .put-bytes .ensures)))

@@ -4,8 +4,8 @@ use mathlib.Core.Path.{sym, _∙_}
 use Rattle.export.specs.Image.{imageOf}
 use Rattle.export.proofs.Parts.{written-whole}
 use Rattle.export.proofs.Sizes.{image-size}
-use Rattle.export.proofs.store.Statement.{statement}
-use Rattle.export.proofs.store.Tie as tie
+use Rattle.export.proofs.answers.store.Statement.{statement}
+use Rattle.export.proofs.answers.store.Tie as tie
 
 pub store-spec : {M : Type 1} → statement M
 store-spec =

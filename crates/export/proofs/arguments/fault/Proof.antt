@@ -3,9 +3,9 @@ use mathlib.Core.Path.{sym, ap}
 use Rattle.records.specs.declared.Refusal.the-variants.{FaultBody}
 use Rattle.commands.proofs.Lookup.{missed}
 use Rattle.export.specs.Calls.{faultTable, faultAsked}
-use Rattle.export.specs.declared.events.Asked.the-variants.{Refused}
-use Rattle.export.proofs.events.fault.Statement.{statement}
-use Rattle.export.proofs.events.fault.Tie as tie
+use Rattle.export.specs.declared.arguments.Asked.the-variants.{Refused}
+use Rattle.export.proofs.arguments.fault.Statement.{statement}
+use Rattle.export.proofs.arguments.fault.Tie as tie
 
 pub fault-spec : {M : Type 1} → statement M
 fault-spec =

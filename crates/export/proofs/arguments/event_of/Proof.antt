@@ -1,8 +1,8 @@
 -- Kind by kind.
 use borrow.Author.Needs.{needs}
 use borrow.Author.Tests.{eq-eqb, ne-eqb}
-use Rattle.export.proofs.events.event_of.Statement.{statement}
-use Rattle.export.proofs.events.event_of.Tie as tie
+use Rattle.export.proofs.arguments.event_of.Statement.{statement}
+use Rattle.export.proofs.arguments.event_of.Tie as tie
 
 pub event-of-spec : {M : Type 1} → statement M
 event-of-spec =

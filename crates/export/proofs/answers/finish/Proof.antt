@@ -1,8 +1,8 @@
 -- Taken, the state is stored; refused, its number.
 use borrow.Author.Needs.{needs}
 use mathlib.Core.Path.{refl}
-use Rattle.export.proofs.finish.Statement.{statement}
-use Rattle.export.proofs.finish.Tie as tie
+use Rattle.export.proofs.answers.finish.Statement.{statement}
+use Rattle.export.proofs.answers.finish.Tie as tie
 
 pub finish-spec : {M : Type 1} → statement M
 finish-spec =

@@ -1,0 +1,69 @@
+// What C gets: the number of an answer, and the state that goes to an image.
+ghost use mathlib.Core.Path.{_≡_};
+ghost use lib.ListN.{length};
+ghost use Rattle.export.specs.Image.{imageSize};
+ghost use Rattle.export.specs.Parts.{Stored};
+ghost use Rattle.export.specs.Calls.{outcomeNumber, imageAfter, verdictNumber, placeOf, switchNumber};
+use crate::encoding;
+use bridge::Outcome;
+use bridge::Stepped;
+use grammar::Verdict;
+use registers::State;
+
+// The number of a call that was taken.
+pub(crate) const TAKEN: u8 = 0;
+
+// The state goes to an image. The caller shows that this has an image's size.
+pub(crate) fn store(image: &mut [u8], s: State)
+    requires { ⌜ length (now image) ≡ imageSize ⌝ }
+    ensures { λ _. ⌜ Stored s (now (image .exit)) ⌝ }
+{
+    encoding::put_image(image, s);
+}
+
+// The number of an answer; the new state of a call that was taken goes to the image.
+pub(crate) fn finish(image: &mut [u8], x: Stepped) -> u8
+    requires { ⌜ length (now image) ≡ imageSize ⌝ }
+    ensures { λ r. ⌜ (r ≡ outcomeNumber (x .outcome)) × (now (image .exit) ≡ imageAfter (x .outcome) (x .bridge .state) (now (image .entry))) ⌝ }
+{
+    let o = x.outcome;
+    match o {
+        Outcome::Taken => {
+            let b = x.bridge;
+            let s = b.state;
+            store(image, s);
+            TAKEN
+        }
+        Outcome::Refused(why) => bridge::number(why),
+    }
+}
+
+pub(crate) fn verdict_number(v: Verdict) -> u8
+    ensures { λ r. ⌜ r ≡ verdictNumber v ⌝ }
+{
+    match v {
+        Verdict::Whole => 0,
+        Verdict::Open => 1,
+        Verdict::Wrong(_) => 2,
+    }
+}
+
+// The place of a wrong byte, 0 where there is none.
+pub(crate) fn place_of(v: Verdict) -> usize
+    ensures { λ r. ⌜ r ≡ placeOf v ⌝ }
+{
+    match v {
+        Verdict::Whole => 0,
+        Verdict::Open => 0,
+        Verdict::Wrong(k) => k,
+    }
+}
+
+pub(crate) fn switch_number(o: switch_on::Outcome) -> u8
+    ensures { λ r. ⌜ r ≡ switchNumber o ⌝ }
+{
+    match o {
+        switch_on::Outcome::On => TAKEN,
+        switch_on::Outcome::Refused(why) => switch_on::number(why),
+    }
+}

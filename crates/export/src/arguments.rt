@@ -1,0 +1,87 @@
+// What C hands over as numbers: an event, a device, a cursor.
+ghost use mathlib.Core.Path.{_≡_};
+ghost use lib.ListN.{length};
+ghost use Rattle.export.specs.Image.{imageSize};
+ghost use Rattle.export.specs.Calls.{faultAsked, eventAsked, deviceOf};
+ghost use Rattle.export.specs.Replaying.{behind, cursorIn};
+use crate::decoding;
+use bridge::Bridge;
+use records::Refusal;
+use registers::Event;
+use registers::Fault;
+use session::replay::Cursor;
+use switch_on::Device;
+
+// An event, or why there is none.
+pub(crate) enum Asked {
+    Event(Event),
+    Refused(Refusal),
+}
+
+// The kinds of events.
+const BYTE: u8 = 1;
+
+const FAULT: u8 = 2;
+
+// A line fault by its code.
+fn fault(value: u8) -> Asked
+    ensures { λ r. ⌜ r ≡ faultAsked value ⌝ }
+{
+    match value {
+        0x81 => Asked::Event(Event::Fault(Fault::Frame)),
+        0x82 => Asked::Event(Event::Fault(Fault::Overrun)),
+        0x83 => Asked::Event(Event::Fault(Fault::Parity)),
+        _ => Asked::Refused(Refusal::FaultBody),
+    }
+}
+
+// An event by its kind and its value.
+pub(crate) fn event_of(kind: u8, value: u8) -> Asked
+    ensures { λ r. ⌜ r ≡ eventAsked kind value ⌝ }
+{
+    if kind == BYTE {
+        return Asked::Event(Event::Byte(value));
+    }
+    if kind == FAULT {
+        return fault(value);
+    }
+    Asked::Refused(Refusal::Kind)
+}
+
+// What the device has besides an image, with its serial number as bytes.
+pub(crate) fn device(cycles: u8, version: u8, serial: u32) -> Device
+    ensures { λ d. ⌜ d ≡ deviceOf cycles version serial ⌝ }
+{
+    let a = (serial % 256) as u8;
+    let b = (serial / 256 % 256) as u8;
+    let c = (serial / 65536 % 256) as u8;
+    let d = (serial / 16777216 % 256) as u8;
+    Device {
+        cycles,
+        version,
+        serial: [a, b, c, d],
+    }
+}
+
+// A replay's cursor; it is done with any mark but 0. The caller shows that the image has an image's size.
+pub(crate) fn cursor_of(
+    image: &[u8],
+    at: usize,
+    end: usize,
+    sample: usize,
+    sampled: usize,
+    done: u8,
+) -> Cursor
+    requires { ⌜ length (now image) ≡ imageSize ⌝ }
+    ensures { λ c. ⌜ c ≡ cursorIn (behind (now (image .entry)) at end sample sampled done) ⌝ }
+{
+    let state = decoding::state_of(image);
+    Cursor {
+        bridge: Bridge { state },
+        at,
+        end,
+        sample,
+        sampled,
+        done: done != 0,
+    }
+}
