@@ -4,15 +4,15 @@ use mathlib.Core.Path.{_≡_, refl, sym, ap, _∙_}
 use mathlib.Core.Bool.{Bool, true, false, cond, _&&_, _||_, false≢true}
 use mathlib.Core.List.{List, [], _∷_, _++_, append-assoc, append-nil}
 use native.Mathlib.Omega.{arith}
-use borrow.Author.Tests.{eqb-true, leb-true, eq-eqb, le-leb}
+use borrow.Author.Tests.{eqb-true, leb-true, eq-eqb}
 use lib.Dec.{eqb, leb}
-use lib.ListN.{getD, length, take, drop, length-append, length-drop}
+use lib.ListN.{getD, length, drop, length-append, length-drop}
 use lib.Seq.{take-all}
 use Rattle.packet.specs.Packet.{registerBytes}
 use Rattle.registers.specs.declared.State.{State}
-use Rattle.export.specs.Image.{atConfigured, atPacket, atTimings, atEprom, atCycles, atVersion, atSerial, atWait, atLeft, atHeld, heldBytes, imageSize, waitCode, waitLeft, waitOf, piece, imageOf, stateIn, isState, AllSized, ImageOfState, StateOfImage}
+use Rattle.export.specs.Image.{timingBytes, epromBytes, serialBytes, heldBytes, atConfigured, atPacket, atTimings, atEprom, atCycles, atVersion, atSerial, atWait, atLeft, atHeld, imageSize, waitCode, waitLeft, waitOf, piece, imageOf, stateIn, isState, AllSized, ImageOfState, StateOfImage}
 use Rattle.export.proofs.Parts.{piece-is, byte-is, piece-first, bytesAt, bytes-first}
-use Rattle.export.proofs.Waits.{Numbered, wait-numbered, code-back, left-back}
+use Rattle.export.proofs.Waits.{wait-numbered, code-back, left-back}
 
 -- THE PARTS IN A ROW: registers, packet register, timings; EPROM, cycles and version, serial number; wait and left, held
 abbrev row : List ℕ → List ℕ → List ℕ → List ℕ → List ℕ → List ℕ → List ℕ → List ℕ → List ℕ
@@ -22,7 +22,7 @@ regroup : (r p t e c n w h : List ℕ) → row r p t e c n w h ≡ r ++ (p ++ (t
 regroup r p t e c n w h = simp append-assoc
 
 -- the parts of a row that have their sizes, by their places
-module _ (r p t e n h : List ℕ) (cycles version code left : ℕ) (sr : length r ≡ atPacket) (sp : length p ≡ registerBytes) (st : length t ≡ 9) (se : length e ≡ 10) (sn : length n ≡ 4) (sh : length h ≡ heldBytes) where
+module _ (r p t e n h : List ℕ) (cycles version code left : ℕ) (sr : length r ≡ atPacket) (sp : length p ≡ registerBytes) (st : length t ≡ timingBytes) (se : length e ≡ epromBytes) (sn : length n ≡ serialBytes) (sh : length h ≡ heldBytes) where
   abbrev i : List ℕ
   i = row r p t e (cycles ∷ version ∷ []) n (code ∷ left ∷ []) h
 
@@ -32,11 +32,11 @@ module _ (r p t e n h : List ℕ) (cycles version code left : ℕ) (sr : length 
   row-packet : piece i atPacket registerBytes ≡ p
   row-packet = piece-is i r p (t ++ (e ++ ((cycles ∷ version ∷ []) ++ (n ++ ((code ∷ left ∷ []) ++ h))))) atPacket registerBytes (regroup r p t e (cycles ∷ version ∷ []) n (code ∷ left ∷ []) h) sr sp
 
-  row-timings : piece i atTimings 9 ≡ t
-  row-timings = piece-is i (r ++ p) t (e ++ ((cycles ∷ version ∷ []) ++ (n ++ ((code ∷ left ∷ []) ++ h)))) atTimings 9 (simp append-assoc) (simp length-append (omega arith)) st
+  row-timings : piece i atTimings timingBytes ≡ t
+  row-timings = piece-is i (r ++ p) t (e ++ ((cycles ∷ version ∷ []) ++ (n ++ ((code ∷ left ∷ []) ++ h)))) atTimings timingBytes (simp append-assoc) (simp length-append (omega arith)) st
 
-  row-eprom : piece i atEprom 10 ≡ e
-  row-eprom = piece-is i (r ++ p ++ t) e ((cycles ∷ version ∷ []) ++ (n ++ ((code ∷ left ∷ []) ++ h))) atEprom 10 (simp append-assoc) (simp length-append (omega arith)) se
+  row-eprom : piece i atEprom epromBytes ≡ e
+  row-eprom = piece-is i (r ++ p ++ t) e ((cycles ∷ version ∷ []) ++ (n ++ ((code ∷ left ∷ []) ++ h))) atEprom epromBytes (simp append-assoc) (simp length-append (omega arith)) se
 
   row-cycles : getD i atCycles 0 ≡ cycles
   row-cycles = byte-is i (r ++ p ++ t ++ e) cycles ((version ∷ []) ++ (n ++ ((code ∷ left ∷ []) ++ h))) atCycles (simp append-assoc) (simp length-append (omega arith))
@@ -44,8 +44,8 @@ module _ (r p t e n h : List ℕ) (cycles version code left : ℕ) (sr : length 
   row-version : getD i atVersion 0 ≡ version
   row-version = byte-is i (r ++ p ++ t ++ e ++ (cycles ∷ [])) version (n ++ ((code ∷ left ∷ []) ++ h)) atVersion (simp append-assoc) (simp length-append (omega arith))
 
-  row-serial : piece i atSerial 4 ≡ n
-  row-serial = piece-is i (r ++ p ++ t ++ e ++ (cycles ∷ version ∷ [])) n ((code ∷ left ∷ []) ++ h) atSerial 4 (simp append-assoc) (simp length-append (omega arith)) sn
+  row-serial : piece i atSerial serialBytes ≡ n
+  row-serial = piece-is i (r ++ p ++ t ++ e ++ (cycles ∷ version ∷ [])) n ((code ∷ left ∷ []) ++ h) atSerial serialBytes (simp append-assoc) (simp length-append (omega arith)) sn
 
   row-code : getD i atWait 0 ≡ code
   row-code = byte-is i (r ++ p ++ t ++ e ++ (cycles ∷ version ∷ []) ++ n) code ((left ∷ []) ++ h) atWait (simp append-assoc) (simp length-append (omega arith))
@@ -72,7 +72,7 @@ module _ (s : State) (w : AllSized s) where
 
   -- a law of rows, at the state's parts
   abbrev at-state : {A : List ℕ → List ℕ → List ℕ → List ℕ → List ℕ → List ℕ → ℕ → ℕ → ℕ → ℕ → Type 0}
-      → ((r p t e n h : List ℕ) (cycles version code left : ℕ) → length r ≡ atPacket → length p ≡ registerBytes → length t ≡ 9 → length e ≡ 10 → length n ≡ 4 → length h ≡ heldBytes → A r p t e n h cycles version code left)
+      → ((r p t e n h : List ℕ) (cycles version code left : ℕ) → length r ≡ atPacket → length p ≡ registerBytes → length t ≡ timingBytes → length e ≡ epromBytes → length n ≡ serialBytes → length h ≡ heldBytes → A r p t e n h cycles version code left)
       → A front (s .page .packet) (s .page .timings) (s .shared .eprom) (s .shared .serial) (s .held) (s .shared .cycles) (s .shared .version) (waitCode (s .wait)) (waitLeft (s .wait))
   at-state law = law _ _ _ _ _ _ _ _ _ _ refl (w .registers .packet) (w .registers .timings) (w .registers .eprom) (w .registers .serial) (w .held)
 
@@ -133,16 +133,16 @@ mark-of (suc zero) h = refl
 mark-of (suc (suc m)) h = absurd (omega arith)
 
 -- an image is its parts, one after another
-joined : (i : List ℕ) → length i ≡ imageSize → i ≡ bytesAt i 0 11 ++ (piece i atPacket registerBytes ++ (piece i atTimings 9 ++ (piece i atEprom 10 ++ (bytesAt i atCycles 2 ++ (piece i atSerial 4 ++ (bytesAt i atWait 2 ++ piece i atHeld heldBytes))))))
+joined : (i : List ℕ) → length i ≡ imageSize → i ≡ bytesAt i 0 atPacket ++ (piece i atPacket registerBytes ++ (piece i atTimings timingBytes ++ (piece i atEprom epromBytes ++ (bytesAt i atCycles 2 ++ (piece i atSerial serialBytes ++ (bytesAt i atWait 2 ++ piece i atHeld heldBytes))))))
 joined i e =
     let held : drop atHeld i ≡ piece i atHeld heldBytes = sym (take-all heldBytes (drop atHeld i) (simp length-drop (omega arith))) in
     let wait = bytes-first i atWait 2 (omega arith) ∙ ap (λ (r : List ℕ). bytesAt i atWait 2 ++ r) held in
-    let serial = piece-first i atSerial 4 ∙ ap (λ (r : List ℕ). piece i atSerial 4 ++ r) wait in
+    let serial = piece-first i atSerial serialBytes ∙ ap (λ (r : List ℕ). piece i atSerial serialBytes ++ r) wait in
     let cycles = bytes-first i atCycles 2 (omega arith) ∙ ap (λ (r : List ℕ). bytesAt i atCycles 2 ++ r) serial in
-    let eprom = piece-first i atEprom 10 ∙ ap (λ (r : List ℕ). piece i atEprom 10 ++ r) cycles in
-    let timings = piece-first i atTimings 9 ∙ ap (λ (r : List ℕ). piece i atTimings 9 ++ r) eprom in
+    let eprom = piece-first i atEprom epromBytes ∙ ap (λ (r : List ℕ). piece i atEprom epromBytes ++ r) cycles in
+    let timings = piece-first i atTimings timingBytes ∙ ap (λ (r : List ℕ). piece i atTimings timingBytes ++ r) eprom in
     let packet = piece-first i atPacket registerBytes ∙ ap (λ (r : List ℕ). piece i atPacket registerBytes ++ r) timings in
-    bytes-first i 0 11 (omega arith) ∙ ap (λ (r : List ℕ). bytesAt i 0 11 ++ r) packet
+    bytes-first i 0 atPacket (omega arith) ∙ ap (λ (r : List ℕ). bytesAt i 0 atPacket ++ r) packet
 
 pub state-of-image : (i : List ℕ) → StateOfImage i
 unfolding imageOf stateIn
@@ -151,4 +151,4 @@ state-of-image i e =
     let code = code-back (getD i atWait 0) (getD i atLeft 0) (g .code) in
     let left = left-back (getD i atWait 0) (getD i atLeft 0) (g .code) (g .left) in
     let mark = mark-of (getD i atConfigured 0) (g .mark) in
-    rw (mark, code, left) (regroup (bytesAt i 0 11) (piece i atPacket registerBytes) (piece i atTimings 9) (piece i atEprom 10) (bytesAt i atCycles 2) (piece i atSerial 4) (bytesAt i atWait 2) (piece i atHeld heldBytes) ∙ sym (joined i (g .size)))
+    rw (mark, code, left) (regroup (bytesAt i 0 atPacket) (piece i atPacket registerBytes) (piece i atTimings timingBytes) (piece i atEprom epromBytes) (bytesAt i atCycles 2) (piece i atSerial serialBytes) (bytesAt i atWait 2) (piece i atHeld heldBytes) ∙ sym (joined i (g .size)))

@@ -1,12 +1,12 @@
 -- Laws of the parts of a row of bytes: read where they stand, joined, and copied. Assumes nothing.
 use Prim.Native.Nat.{ℕ, zero, suc, _+_, _-_, _≤_}
-use mathlib.Core.Path.{_≡_, refl, sym, ap, _∙_}
-use mathlib.Core.List.{List, [], _∷_, _++_, append-nil, append-assoc}
-use native.Mathlib.Nat.{add-zero, le-of-eq}
+use mathlib.Core.Path.{_≡_, sym, ap, _∙_}
+use mathlib.Core.List.{List, [], _∷_, _++_, append-nil}
+use native.Mathlib.Nat.{add-zero}
 use native.Mathlib.Omega.{arith}
 use lib.ListN.{getD, length, take, drop, length-take, length-drop, take-append-drop, drop-of-length-le}
-use lib.Seq.{drop-cons, drop-drop, take-all, take-at, drop-at, getD-at}
-use Rattle.wire.specs.Buffer.{Written, overwrite}
+use lib.Seq.{drop-cons, drop-drop, take-at, drop-at, getD-at}
+use Rattle.wire.specs.Buffer.{Written}
 use Rattle.wire.proofs.Buffers.{overwrite-right}
 use Rattle.export.specs.Image.{piece}
 

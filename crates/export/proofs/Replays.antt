@@ -1,7 +1,7 @@
 -- The two ways out of the replay's call: what is stored of a cursor is that cursor. Assumes nothing.
 use Prim.Native.Nat.{ℕ, _≤_}
 use mathlib.Core.Path.{_≡_, refl, sym, ap, _∙_, subst}
-use mathlib.Core.Bool.{Bool, true, false, cond, not, true≢false, false≢true}
+use mathlib.Core.Bool.{Bool, true, false, cond, not, false≢true}
 use mathlib.Core.List.{List}
 use native.Mathlib.Omega.{arith}
 use lib.Dec.{eqb}
@@ -44,8 +44,11 @@ module _ (session : List ℕ) (h : Behind) (o : List ℕ) where
     pub replay-taken : isState (h .state) ≡ true → {c : Cursor} → c ≡ cursorIn h → {x : List ℕ} → Runs session c o x r → Replays session h o 0 left x (r .written)
     replay-taken e ec {x} runs = record {
       refused = λ f. absurd (false≢true (sym f ∙ e));
-      taken = λ _.
-          (refl, left-state, rw em (mark-small (r .cursor .done)),
-          subst (λ (d : Cursor). Runs session (cursorIn h) o x (record { cursor = d; written = r .written })) left-cursor
-          (subst (λ (d : Cursor). Runs session d o x r) ec runs));
+      taken = λ _. (
+        refl,
+        left-state,
+        rw em (mark-small (r .cursor .done)),
+        subst (λ (d : Cursor). Runs session (cursorIn h) o x (record { cursor = d; written = r .written })) left-cursor
+            (subst (λ (d : Cursor). Runs session d o x r) ec runs),
+      );
     }

@@ -7,10 +7,8 @@ use lib.ListN.{length, length-append}
 use Rattle.registers.specs.declared.Page.{Page}
 use Rattle.registers.specs.declared.Shared.{Shared}
 use Rattle.registers.specs.declared.State.{State}
-use Rattle.wire.specs.Buffer.{Written}
-use Rattle.export.specs.Image.{atEprom, atWait, imageSize, pageBytes, sharedBytes, waitBytes, imageOf, AllSized}
+use Rattle.export.specs.Image.{atEprom, atWait, imageSize, imageOf, AllSized}
 use Rattle.export.specs.Parts.{PagePut, SharedPut}
-use Rattle.export.proofs.Parts.{written-whole}
 
 pub page-end : (p : Page) {o x : List ℕ} {n : ℕ} → PagePut p o x n → n ≡ atEprom
 page-end p w = omega (arith, w .wrote .after, length-append (p .packet) (p .timings), w .packet, w .timings)

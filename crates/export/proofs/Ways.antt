@@ -7,7 +7,7 @@ use borrow.Author.Tests.{eq-eqb, ne-eqb}
 use lib.ListN.{length}
 use Rattle.registers.specs.declared.State.{State}
 use Rattle.registers.specs.declared.Event.{Event}
-use Rattle.bridge.specs.Calls.{Lent, Given, numberOf, given, answerOf}
+use Rattle.bridge.specs.Calls.{Lent, numberOf, given, answerOf}
 use Rattle.bridge.specs.declared.Bridge.{Bridge}
 use Rattle.bridge.specs.declared.Stepped.{Stepped}
 use Rattle.bridge.specs.declared.Refusal.the-variants.{Ranges}
@@ -23,7 +23,7 @@ use Rattle.switch_on.specs.declared.SwitchedOn.{SwitchedOn}
 use Rattle.records.specs.Records as r
 use Rattle.records.specs.declared.Refusal as why
 use Rattle.export.specs.Image.{imageSize, imageOf, stateIn, isState}
-use Rattle.export.specs.Calls.{Asked, startCall, startGives, StepCall, stepCall, eventAsked, outcomeNumber, imageAfter, stepAnswered, stepGives, judgeCall, verdictNumber, placeOf, judgeAnswered, judgeGives, switchCall, switchNumber, switchAnswered, switchGives}
+use Rattle.export.specs.Calls.{Asked, startCall, startGives, stepCall, eventAsked, outcomeNumber, imageAfter, stepAnswered, stepGives, judgeCall, verdictNumber, placeOf, judgeAnswered, judgeGives, switchCall, switchNumber, switchAnswered, switchGives}
 use Rattle.export.specs.declared.arguments.Asked.the-variants as a
 
 module _ (image : List ℕ) where

@@ -18,6 +18,19 @@ use Rattle.registers.specs.declared.Wait.the-variants.{Nothing, One, Extended, 
 use Rattle.commands.specs.Common.{Entry, _is_, lookup}
 use Rattle.commands.specs.Promises.{Sized}
 
+-- THE SIZES of the state's arrays; the packet register's is `registerBytes`
+abbrev pub timingBytes : ℕ
+timingBytes = 9
+
+abbrev pub epromBytes : ℕ
+epromBytes = 10
+
+abbrev pub serialBytes : ℕ
+serialBytes = 4
+
+abbrev pub heldBytes : ℕ
+heldBytes = 9
+
 -- WHERE EACH PART STANDS: the registers, then each part after the one before it
 abbrev pub atConfigured : ℕ
 atConfigured = 9
@@ -29,10 +42,10 @@ abbrev pub atTimings : ℕ
 atTimings = atPacket + registerBytes
 
 abbrev pub atEprom : ℕ
-atEprom = atTimings + 9
+atEprom = atTimings + timingBytes
 
 abbrev pub atCycles : ℕ
-atCycles = atEprom + 10
+atCycles = atEprom + epromBytes
 
 abbrev pub atVersion : ℕ
 atVersion = atCycles + 1
@@ -41,17 +54,13 @@ abbrev pub atSerial : ℕ
 atSerial = atVersion + 1
 
 abbrev pub atWait : ℕ
-atWait = atSerial + 4
+atWait = atSerial + serialBytes
 
 abbrev pub atLeft : ℕ
 atLeft = atWait + 1
 
 abbrev pub atHeld : ℕ
 atHeld = atLeft + 1
-
--- "the packet or timing bytes held so far"
-abbrev pub heldBytes : ℕ
-heldBytes = 9
 
 abbrev pub imageSize : ℕ
 imageSize = atHeld + heldBytes
@@ -124,11 +133,11 @@ pageIn i = record {
   configured = eqb (getD i atConfigured 0) 1;
   size = getD i 10 0;
   packet = piece i atPacket registerBytes;
-  timings = piece i atTimings 9;
+  timings = piece i atTimings timingBytes;
 }
 
 abbrev pub sharedIn : List ℕ → Shared
-sharedIn i = record { eprom = piece i atEprom 10; cycles = getD i atCycles 0; version = getD i atVersion 0; serial = piece i atSerial 4 }
+sharedIn i = record { eprom = piece i atEprom epromBytes; cycles = getD i atCycles 0; version = getD i atVersion 0; serial = piece i atSerial serialBytes }
 
 abbrev pub waitTable : ℕ → List (Entry Wait)
 waitTable left =

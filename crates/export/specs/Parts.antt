@@ -9,17 +9,17 @@ use Rattle.registers.specs.declared.Page.{Page}
 use Rattle.registers.specs.declared.Shared.{Shared}
 use Rattle.registers.specs.declared.Wait.{Wait}
 use Rattle.registers.specs.declared.State.{State}
-use Rattle.export.specs.Image.{pageBytes, sharedBytes, waitBytes, imageOf, heldBytes, AllSized}
+use Rattle.export.specs.Image.{timingBytes, epromBytes, serialBytes, heldBytes, pageBytes, sharedBytes, waitBytes, imageOf, AllSized}
 
 pub record PagePut (p : Page) (o x : List ℕ) (n : ℕ) : Type 0 where
   pub wrote : Written o 0 (pageBytes p) x n
   pub packet : length (p .packet) ≡ registerBytes
-  pub timings : length (p .timings) ≡ 9
+  pub timings : length (p .timings) ≡ timingBytes
 
 pub record SharedPut (h : Shared) (at : ℕ) (o x : List ℕ) (n : ℕ) : Type 0 where
   pub wrote : Written o at (sharedBytes h) x n
-  pub eprom : length (h .eprom) ≡ 10
-  pub serial : length (h .serial) ≡ 4
+  pub eprom : length (h .eprom) ≡ epromBytes
+  pub serial : length (h .serial) ≡ serialBytes
 
 pub record WaitPut (w : Wait) (held : List ℕ) (at : ℕ) (o x : List ℕ) (n : ℕ) : Type 0 where
   pub wrote : Written o at (waitBytes w held) x n

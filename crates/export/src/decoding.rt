@@ -4,7 +4,7 @@ ghost use mathlib.Core.Bool.{true};
 ghost use Prim.Native.Nat.{_+_, _≤_};
 ghost use lib.ListN.{length};
 ghost use Rattle.packet.specs.Packet.{registerBytes};
-ghost use Rattle.export.specs.Image.{heldBytes, imageSize, piece, waitOf, pageIn, sharedIn, stateIn, isState};
+ghost use Rattle.export.specs.Image.{timingBytes, epromBytes, serialBytes, heldBytes, imageSize, piece, waitOf, pageIn, sharedIn, stateIn, isState};
 use registers::Operand;
 use registers::Page;
 use registers::PortRegister;
@@ -12,7 +12,12 @@ use registers::Shared;
 use registers::State;
 use registers::Wait;
 
-// Where each part of an image stands, after the registers.
+// The sizes of the EPROM image and of the serial number.
+const EPROM: usize = 10;
+
+const SERIAL: usize = 4;
+
+// Where each part of an image stands.
 const AT_CONFIGURED: usize = 9;
 
 const AT_PACKET: usize = 11;
@@ -21,13 +26,13 @@ const AT_TIMINGS: usize = AT_PACKET + packet::BYTES;
 
 const AT_EPROM: usize = AT_TIMINGS + registers::TIMINGS;
 
-const AT_CYCLES: usize = AT_EPROM + 10;
+const AT_CYCLES: usize = AT_EPROM + EPROM;
 
 const AT_VERSION: usize = AT_CYCLES + 1;
 
 const AT_SERIAL: usize = AT_VERSION + 1;
 
-const AT_WAIT: usize = AT_SERIAL + 4;
+const AT_WAIT: usize = AT_SERIAL + SERIAL;
 
 const AT_LEFT: usize = AT_WAIT + 1;
 
@@ -80,8 +85,8 @@ fn packet_at(i: &[u8], at: usize) -> packet::Register
 }
 
 fn timings_at(i: &[u8], at: usize) -> [u8; registers::TIMINGS]
-    requires { ⌜ at + 9 ≤ length (now i) ⌝ }
-    ensures { λ r. ⌜ r ≡ piece (now (i .entry)) at 9 ⌝ }
+    requires { ⌜ at + timingBytes ≤ length (now i) ⌝ }
+    ensures { λ r. ⌜ r ≡ piece (now (i .entry)) at timingBytes ⌝ }
 {
     let mut r = [0u8; registers::TIMINGS];
     let end = at + registers::TIMINGS;
@@ -89,22 +94,22 @@ fn timings_at(i: &[u8], at: usize) -> [u8; registers::TIMINGS]
     r
 }
 
-fn eprom_at(i: &[u8], at: usize) -> [u8; 10]
-    requires { ⌜ at + 10 ≤ length (now i) ⌝ }
-    ensures { λ r. ⌜ r ≡ piece (now (i .entry)) at 10 ⌝ }
+fn eprom_at(i: &[u8], at: usize) -> [u8; EPROM]
+    requires { ⌜ at + epromBytes ≤ length (now i) ⌝ }
+    ensures { λ r. ⌜ r ≡ piece (now (i .entry)) at epromBytes ⌝ }
 {
-    let mut r = [0u8; 10];
-    let end = at + 10;
+    let mut r = [0u8; EPROM];
+    let end = at + EPROM;
     wire::put_bytes(&mut r, 0, &i[at..end]);
     r
 }
 
-fn serial_at(i: &[u8], at: usize) -> [u8; 4]
-    requires { ⌜ at + 4 ≤ length (now i) ⌝ }
-    ensures { λ r. ⌜ r ≡ piece (now (i .entry)) at 4 ⌝ }
+fn serial_at(i: &[u8], at: usize) -> [u8; SERIAL]
+    requires { ⌜ at + serialBytes ≤ length (now i) ⌝ }
+    ensures { λ r. ⌜ r ≡ piece (now (i .entry)) at serialBytes ⌝ }
 {
-    let mut r = [0u8; 4];
-    let end = at + 4;
+    let mut r = [0u8; SERIAL];
+    let end = at + SERIAL;
     wire::put_bytes(&mut r, 0, &i[at..end]);
     r
 }

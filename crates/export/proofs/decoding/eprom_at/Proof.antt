@@ -1,6 +1,7 @@
 -- The part is copied whole.
 use borrow.Author.Needs.{needs}
 use mathlib.Core.Path.{refl}
+use Rattle.export.specs.Image.{epromBytes}
 use Rattle.export.proofs.Parts.{piece-copied}
 use Rattle.export.proofs.decoding.eprom_at.Statement.{statement}
 use Rattle.export.proofs.decoding.eprom_at.Tie as tie
@@ -17,4 +18,4 @@ eprom-at-spec =
     (λ c κs. search needs)
     (λ c.
     let s = c .before .before .before .before .before in
-    piece-copied (s .args .i .now) _ (s .args .at) 10 refl (s .pre) (c .before .put-bytes .ensures)))
+    piece-copied (s .args .i .now) _ (s .args .at) epromBytes refl (s .pre) (c .before .put-bytes .ensures)))

@@ -1,6 +1,7 @@
 -- The part is copied whole.
 use borrow.Author.Needs.{needs}
 use mathlib.Core.Path.{refl}
+use Rattle.export.specs.Image.{timingBytes}
 use Rattle.export.proofs.Parts.{piece-copied}
 use Rattle.export.proofs.decoding.timings_at.Statement.{statement}
 use Rattle.export.proofs.decoding.timings_at.Tie as tie
@@ -17,4 +18,4 @@ timings-at-spec =
     (λ c κs. search needs)
     (λ c.
     let s = c .before .before .before .before .before in
-    piece-copied (s .args .i .now) _ (s .args .at) 9 refl (s .pre) (c .before .put-bytes .ensures)))
+    piece-copied (s .args .i .now) _ (s .args .at) timingBytes refl (s .pre) (c .before .put-bytes .ensures)))

@@ -1,18 +1,18 @@
 -- The registers, the packet register and the timings, one after another.
 use borrow.Author.Needs.{needs}
-use Prim.Native.Nat.{ℕ}
 use mathlib.Core.Path.{_≡_, sym, _∙_}
 use native.Mathlib.Omega.{arith}
 use lib.ListN.{length, length-map}
 use Rattle.packet.specs.Packet.{registerBytes}
 use Rattle.wire.proofs.Buffers.{written-append}
+use Rattle.export.specs.Image.{timingBytes}
 use Rattle.export.proofs.encoding.put_page.Statement.{statement}
 use Rattle.export.proofs.encoding.put_page.Tie as tie
 
 packet-size : (s : tie.Start) → length (s .args .p .packet) ≡ registerBytes
 packet-size s = sym (length-map (s .args .p .packet) _) ∙ s .good .1 .0 .1 .1 .1 .1 .1 .1 .1 .1 .1 .1 .1 .1 .1 .0 .1 .0 .1
 
-timings-size : (s : tie.Start) → length (s .args .p .timings) ≡ 9
+timings-size : (s : tie.Start) → length (s .args .p .timings) ≡ timingBytes
 timings-size s = sym (length-map (s .args .p .timings) _) ∙ s .good .1 .0 .1 .1 .1 .1 .1 .1 .1 .1 .1 .1 .1 .1 .1 .1 .0 .1 .0 .1
 
 pub put-page-spec : {M : Type 1} → statement M

@@ -4,13 +4,14 @@ use mathlib.Core.Path.{_≡_, sym, _∙_}
 use native.Mathlib.Omega.{arith}
 use lib.ListN.{length, length-map}
 use Rattle.wire.proofs.Buffers.{written-append}
+use Rattle.export.specs.Image.{epromBytes, serialBytes}
 use Rattle.export.proofs.encoding.put_shared.Statement.{statement}
 use Rattle.export.proofs.encoding.put_shared.Tie as tie
 
-eprom-size : (s : tie.Start) → length (s .args .h .eprom) ≡ 10
+eprom-size : (s : tie.Start) → length (s .args .h .eprom) ≡ epromBytes
 eprom-size s = sym (length-map (s .args .h .eprom) _) ∙ s .good .1 .1 .0 .1 .1 .0 .1 .0 .1
 
-serial-size : (s : tie.Start) → length (s .args .h .serial) ≡ 4
+serial-size : (s : tie.Start) → length (s .args .h .serial) ≡ serialBytes
 serial-size s = sym (length-map (s .args .h .serial) _) ∙ s .good .1 .1 .0 .1 .1 .1 .1 .1 .0 .1 .0 .1
 
 pub put-shared-spec : {M : Type 1} → statement M
