@@ -22,7 +22,7 @@ use Rattle.switch_on.specs.Start.{starting}
 use Rattle.switch_on.specs.SwitchOn.{Switched, switchOf}
 use Rattle.switch_on.specs.SwitchOn as on
 use Rattle.switch_on.specs.declared.Device.{Device}
-use Rattle.switch_on.specs.declared.Outcome as son
+use Rattle.switch_on.specs.declared.Outcome as switch
 use Rattle.switch_on.specs.declared.Outcome.the-variants as s
 use Rattle.records.specs.Records as r
 use Rattle.records.specs.declared.Refusal.the-variants.{Kind, FaultBody}
@@ -132,7 +132,7 @@ switchCall n image as′ acted = record { number = n; state = image; actions = a
 abbrev pub deviceOf : ℕ → ℕ → ℕ → Device
 deviceOf cycles version serial = record { cycles = cycles; version = version; serial = r.word32 serial }
 
-abbrev pub switchNumber : son.Outcome → ℕ
+abbrev pub switchNumber : switch.Outcome → ℕ
 switchNumber s.On = 0
 switchNumber (s.Refused why) = on.numberOf why
 
