@@ -48,9 +48,10 @@ pub fn compare(dice: &mut Dice, tally: &mut Tally) -> Result<(), String> {
         start[image::LEFT] = 0;
     }
     let state = image::state(&start);
-    let length = match dice.below(50) {
-        0 => dice.below(3000),
-        1..=9 => dice.below(4),
+    let length = match dice.below(5_000) {
+        0 => dice.between(60_000, 200_000),
+        1..=99 => dice.below(3_000),
+        100..=999 => dice.below(4),
         _ => dice.below(60),
     };
     let mut from = state.clone().filter(State::in_range).unwrap_or_else(reference::factory_start);

@@ -70,7 +70,8 @@ fn plan() -> Result<Plan, String> {
 
 fn compare_all(plan: &Plan, tally: &mut Tally) -> Result<(), String> {
     let dice = &mut Dice::new(plan.seed);
-    let mut made = 0;
+    let enough = plan.steps > steps::BYTES_TO_TAKE as u64;
+    let mut made = if enough { steps::every(dice, &mut tally.steps)? } else { 0 };
     while made < plan.steps {
         made += steps::walk(dice, plan.steps - made, &mut tally.steps)?;
         for _ in 0..(plan.steps - made).min(75) {
@@ -106,7 +107,13 @@ fn refused(counts: &[u64]) -> String {
 
 fn report(tally: &Tally) {
     let Tally { steps, sessions, judging, switching } = tally;
-    println!("steps: {} taken; refused {}", steps.by_refusal[0], refused(&steps.by_refusal));
+    println!(
+        "steps: {} taken, {} of {} bytes with an interface and a wait; refused {}",
+        steps.by_refusal[0],
+        steps.bytes.len(),
+        steps::BYTES_TO_TAKE,
+        refused(&steps.by_refusal)
+    );
     println!(
         "scripts: {} whole, {} open, {} wrong, {} refused",
         judging.whole, judging.open, judging.wrong, judging.refused

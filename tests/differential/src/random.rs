@@ -27,8 +27,33 @@ fn timings(dice: &mut Dice) -> [u8; 9] {
 
 /// An image of a state in range, with any wait that its interface allows.
 pub fn state_in_range(dice: &mut Dice) -> Box<[u8]> {
-    let mut image = image::image(&reference::factory_start());
     let interface = dice.pick(&[0, I2C_SEL, SPI_SEL, SPI_SEL, ONE_WIRE_SEL]);
+    let own = waits(interface);
+    let wait = match dice.below(12) {
+        0..=3 if !own.is_empty() => dice.pick(own),
+        4 => dice.pick(&COMMON_WAITS),
+        5 => 14,
+        _ => 0,
+    };
+    state_with(dice, interface, wait)
+}
+
+/// The waits that need no interface.
+pub const COMMON_WAITS: [u8; 9] = [0, 1, 2, 3, 4, 5, 6, 7, 14];
+
+/// The waits of an interface.
+pub fn waits(interface: u8) -> &'static [u8] {
+    match interface {
+        I2C_SEL => &[8],
+        SPI_SEL => &[9, 10, 15, 16],
+        ONE_WIRE_SEL => &[11, 12, 13, 17],
+        _ => &[],
+    }
+}
+
+/// An image of a state in range, with an interface and a wait that it allows.
+pub fn state_with(dice: &mut Dice, interface: u8, wait: u8) -> Box<[u8]> {
+    let mut image = image::image(&reference::factory_start());
     image[FLAGS] = interface | dice.pick(&[0x00, 0x08, 0x10, 0x18]);
     if dice.one_in(2) {
         image[1] = dice.byte();
@@ -40,7 +65,7 @@ pub fn state_in_range(dice: &mut Dice) -> Box<[u8]> {
         image[at] &= !zero;
     }
     image[CONFIG] = dice.below(8) as u8;
-    image[CONFIGURED] = u8::from(!dice.one_in(5));
+    image[CONFIGURED] = u8::from(wait == 15 || wait == 16 || !dice.one_in(5));
     image[PACKET_SIZE] = size(dice);
     for at in 11..19 {
         image[at] = dice.byte();
@@ -49,8 +74,14 @@ pub fn state_in_range(dice: &mut Dice) -> Box<[u8]> {
     for at in 28..44 {
         image[at] = dice.byte();
     }
-    if dice.one_in(2) {
-        wait(&mut image, dice);
+    image[WAIT] = wait;
+    if wait >= 15 {
+        let of = if wait == 17 { 9 } else { image[PACKET_SIZE] / 8 + 1 };
+        let left = if dice.one_in(3) { 1 } else { dice.between(1, usize::from(of)) as u8 };
+        image[LEFT] = left;
+        for k in 0..usize::from(of - left) {
+            image[HELD + k] = dice.byte();
+        }
     }
     if dice.one_in(4) {
         let stray = dice.between(HELD, SIZE - 1);
@@ -59,27 +90,6 @@ pub fn state_in_range(dice: &mut Dice) -> Box<[u8]> {
         }
     }
     image
-}
-
-/// Puts in a wait of the image's interface, with its held bytes.
-fn wait(image: &mut [u8], dice: &mut Dice) {
-    let packet_bytes = image[PACKET_SIZE] / 8 + 1;
-    let (wait, of) = match image[FLAGS] & 7 {
-        I2C_SEL if !dice.one_in(4) => (8, 0),
-        SPI_SEL if image[CONFIGURED] == 1 && dice.one_in(2) => (dice.pick(&[15, 16]), packet_bytes),
-        SPI_SEL if dice.one_in(2) => (dice.pick(&[9, 10]), 0),
-        ONE_WIRE_SEL if dice.one_in(3) => (17, 9),
-        ONE_WIRE_SEL if !dice.one_in(3) => (dice.pick(&[11, 12, 13]), 0),
-        _ => (dice.pick(&[1, 2, 3, 4, 5, 6, 7, 14, 14, 14]), 0),
-    };
-    image[WAIT] = wait;
-    if of > 0 {
-        let left = if dice.one_in(3) { 1 } else { dice.between(1, usize::from(of)) as u8 };
-        image[LEFT] = left;
-        for k in 0..usize::from(of - left) {
-            image[HELD + k] = dice.byte();
-        }
-    }
 }
 
 /// Any image: mostly of a state in range, else one that breaks a clause of refusal 1 or is no state.
@@ -171,7 +181,7 @@ fn break_one(image: &mut [u8], dice: &mut Dice) {
 
 /// A byte for a state: mostly one that it has a use for.
 pub fn likely_byte(dice: &mut Dice, state: &State) -> u8 {
-    if dice.one_in(24) {
+    if dice.one_in(12) {
         return dice.byte();
     }
     match state.wait {

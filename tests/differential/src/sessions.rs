@@ -239,7 +239,7 @@ pub fn wild(dice: &mut Dice, tally: &mut Tally) -> Result<(), String> {
     let refusal = calls::replay(&mut cursor, &session, &mut output, &mut written);
     let expected = u8::from(image::state(&before.state).is_none());
     let unchanged = cursor == before && *written == 0;
-    let beyond = output.get(*written..).map_or(true, |rest| rest.iter().any(|&byte| byte != fill));
+    let beyond = output.get(*written..).is_none_or(|rest| rest.iter().any(|&byte| byte != fill));
     if refusal != expected || refusal != 0 && !unchanged || beyond {
         return Err(format!(
             "wild replay\nsession {}\nbefore {before:?}\nafter {cursor:?}\n{room} bytes of output, {written} written\n\

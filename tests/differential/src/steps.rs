@@ -2,9 +2,14 @@
 
 use crate::dice::Dice;
 use crate::image;
-use crate::random::{any_image, event, likely_event, needs, past, room, samples, state_in_range};
+use crate::random::{
+    any_image, event, likely_event, needs, past, room, samples, state_in_range, state_with, waits,
+    COMMON_WAITS,
+};
 use crate::show::{hex, parting};
 use bench_bridge::calls::{self, Counts};
+use reference::state::{I2C_SEL, ONE_WIRE_SEL, SPI_SEL};
+use std::collections::HashSet;
 use std::fmt;
 
 /// All that goes into a call. Each slice is a piece of the heap that is as long as it says.
@@ -31,11 +36,15 @@ struct Answer {
     replies: Box<[u8]>,
 }
 
-/// How many calls ended how; 0 is taken.
+/// How many calls ended how (0 is taken), and the bytes taken: the interface, what was waited for, the byte.
 #[derive(Default)]
 pub struct Tally {
     pub by_refusal: [u64; 13],
+    pub bytes: HashSet<(u8, u8, u8)>,
 }
+
+/// How many such bytes there are: nine waits without an interface, one more with I2C, four with SPI or 1-Wire; and any byte.
+pub const BYTES_TO_TAKE: usize = (9 + 10 + 13 + 13) * 256;
 
 fn by_the_library(call: &Call) -> Answer {
     let Call { mut image, mut actions, mut replies, .. } = call.clone();
@@ -101,6 +110,9 @@ fn compare(call: &Call, tally: &mut Tally) -> Result<Answer, String> {
         return Err(difference(call, &library, &reference));
     }
     tally.by_refusal[usize::from(library.refusal)] += 1;
+    if library.refusal == 0 && call.kind == calls::BYTE {
+        tally.bytes.insert((call.image[image::FLAGS] & 7, call.image[image::WAIT], call.value));
+    }
     Ok(library)
 }
 
@@ -138,16 +150,44 @@ impl fmt::Display for Answer {
     }
 }
 
+/// Every byte for every interface and wait, with room enough. Answers how many calls that were.
+pub fn every(dice: &mut Dice, tally: &mut Tally) -> Result<u64, String> {
+    let mut made = 0;
+    for interface in [0, I2C_SEL, SPI_SEL, ONE_WIRE_SEL] {
+        for &wait in COMMON_WAITS.iter().chain(waits(interface)) {
+            for value in 0..=255 {
+                let image = state_with(dice, interface, wait);
+                one(dice, image, calls::BYTE, value, true, tally)?;
+                made += 1;
+            }
+        }
+    }
+    Ok(made)
+}
+
 /// One call with a new state and buffers.
 pub fn single(dice: &mut Dice, tally: &mut Tally) -> Result<(), String> {
     let image = any_image(dice);
     let state = image::state(&image).unwrap_or_else(reference::factory_start);
     let (kind, value) = likely_event(dice, &state);
+    let plain = dice.one_in(2);
+    one(dice, image, kind, value, plain, tally)
+}
+
+/// One call with new buffers, which have room enough if the call is plain.
+fn one(
+    dice: &mut Dice,
+    image: Box<[u8]>,
+    kind: u8,
+    value: u8,
+    plain: bool,
+    tally: &mut Tally,
+) -> Result<(), String> {
+    let state = image::state(&image).unwrap_or_else(reference::factory_start);
     let need = match event(kind, value) {
         Ok(event) if state.in_range() => needs(&state, event),
         _ => [dice.below(3), dice.below(50), dice.below(3)],
     };
-    let plain = dice.one_in(2);
     let mut lend = |need: usize| if plain { (need + dice.below(9), 0) } else { room(dice, need) };
     let [(sample_size, sampled), (action_size, acted), (reply_size, replied)] = need.map(&mut lend);
     let call = Call {
