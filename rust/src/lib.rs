@@ -234,7 +234,7 @@ pub fn switch_on(
 
 /// The replay of a session file from the factory start, in chunks whose sum is the transcript.
 ///
-/// As an iterator it gives each chunk as a vector; [`Replay::into_buffer`] fills a lent buffer instead.
+/// As an iterator it gives each chunk as a vector; [`Replay::fill`] fills a lent buffer instead.
 ///
 /// ```
 /// let session = [3, 0, 1, 0, 0x07, 0x01, 0x1A];
@@ -263,7 +263,7 @@ impl<'a> Replay<'a> {
 
     /// Writes on to the buffer's front as far as surely fits, and answers how many bytes were written. With [`REPLAY_ROOM`] bytes
     /// it always gets further.
-    pub fn into_buffer(&mut self, output: &mut [u8]) -> usize {
+    pub fn fill(&mut self, output: &mut [u8]) -> usize {
         let mut written = 0;
         if !self.is_over() {
             let refusal = calls::replay(&mut self.cursor, self.session, output, &mut written);
@@ -293,7 +293,7 @@ impl Iterator for Replay<'_> {
             return None;
         }
         let mut chunk = vec![0; self.room];
-        let written = self.into_buffer(&mut chunk);
+        let written = self.fill(&mut chunk);
         chunk.truncate(written);
         Some(chunk)
     }

@@ -17,7 +17,7 @@ fn main() -> io::Result<()> {
         let mut replay = Replay::new(&bytes);
         let mut chunk = vec![0; 16 * 1024];
         while !replay.is_over() {
-            let written = replay.into_buffer(&mut chunk);
+            let written = replay.fill(&mut chunk);
             io::stdout().write_all(&chunk[..written])?;
         }
     }
