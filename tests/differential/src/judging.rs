@@ -68,9 +68,10 @@ pub fn compare(dice: &mut Dice, tally: &mut Tally) -> Result<(), String> {
     let refusal = calls::judge(&start, &bytes, &mut verdict, &mut place);
     let library = (refusal, *verdict, *place);
     let judgement = state.map_or(Judgement::Refused(1), |state| reference::judge(&state, &bytes));
+    // The place of what is not wrong is 0.
     let reference = match judgement {
-        Judgement::Whole => (0, calls::WHOLE, PLACE),
-        Judgement::Open => (0, calls::OPEN, PLACE),
+        Judgement::Whole => (0, calls::WHOLE, 0),
+        Judgement::Open => (0, calls::OPEN, 0),
         Judgement::WrongAt(place) => (0, calls::WRONG, place),
         Judgement::Refused(number) => (number, VERDICT, PLACE),
     };

@@ -8,7 +8,7 @@ use crate::random::{
 };
 use crate::show::{hex, parting};
 use bench_bridge::calls::{self, Counts};
-use reference::state::{I2C_SEL, ONE_WIRE_SEL, SPI_SEL};
+use reference::state::{State, I2C_SEL, ONE_WIRE_SEL, SPI_SEL};
 use std::collections::HashSet;
 use std::fmt;
 
@@ -64,9 +64,11 @@ fn by_the_library(call: &Call) -> Answer {
     Answer { refusal, counts: *counts, image, actions, replies }
 }
 
-/// The refusal of a call that has no event to take: the lowest number that applies, as in 01.
-fn no_event(call: &Call, number: u8) -> u8 {
-    if call.sampled > call.samples.len() {
+/// The refusal of a call that has no event, which would be 8 or 9: the lowest number that applies, as in 01.
+fn no_event(call: &Call, state: &State, number: u8) -> u8 {
+    if !state.in_range() {
+        1
+    } else if call.sampled > call.samples.len() {
         2
     } else if call.acted > call.actions.len() {
         3
@@ -84,12 +86,9 @@ fn by_the_reference(call: &Call) -> Answer {
         Answer { refusal, counts: Counts::default(), image, actions, replies }
     };
     let Some(state) = image::state(&image) else { return refused(1) };
-    if !state.in_range() {
-        return refused(1);
-    }
     let event = match event(call.kind, call.value) {
         Ok(event) => event,
-        Err(number) => return refused(no_event(call, number)),
+        Err(number) => return refused(no_event(call, &state, number)),
     };
     let (sampled, acted, replied) = (call.sampled, call.acted, call.replied);
     let answer =
@@ -210,7 +209,7 @@ fn one(
 
 /// The wrapper's `step` on the rests of the buffers does what the C function does with marks.
 fn by_the_wrapper(call: &Call) -> Result<(), String> {
-    use bench_bridge::{step, Event, Fault, State};
+    use bench_bridge::{step, Event, Fault};
     let event = match (call.kind, call.value) {
         (1, byte) => Event::Byte(byte),
         (2, 0x81) => Event::Fault(Fault::Frame),
@@ -226,7 +225,7 @@ fn by_the_wrapper(call: &Call) -> Result<(), String> {
     else {
         return Ok(());
     };
-    let answer = step(&State::from_image(image), event, samples, action_rest, reply_rest);
+    let answer = step(&bench_bridge::State::from_image(image), event, samples, action_rest, reply_rest);
     let (refusal, counts, image) = match answer {
         Ok(taken) => {
             let counts = Counts { samples: taken.samples, replies: taken.replies, actions: taken.actions };
