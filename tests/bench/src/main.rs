@@ -2,7 +2,9 @@
 //! `bench replay FILE` writes the transcript.
 
 use bench_bridge::{judge, Replay, State};
+use std::fs::File;
 use std::io::{self, Write};
+use std::os::fd::AsFd;
 
 fn main() -> io::Result<()> {
     let arguments: Vec<String> = std::env::args().skip(1).collect();
@@ -14,11 +16,13 @@ fn main() -> io::Result<()> {
     if command == "judge" {
         println!("{:?}", judge(&State::factory_start(), &bytes));
     } else {
+        // A plain file, since standard output as Rust has it looks for ends of lines.
+        let mut output = File::from(io::stdout().as_fd().try_clone_to_owned()?);
         let mut replay = Replay::new(&bytes);
         let mut chunk = vec![0; 16 * 1024];
         while !replay.is_over() {
             let written = replay.fill(&mut chunk);
-            io::stdout().write_all(&chunk[..written])?;
+            output.write_all(&chunk[..written])?;
         }
     }
     Ok(())
