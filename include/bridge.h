@@ -1,7 +1,8 @@
 /* The bench bridge, for C and for whatever links C. Every function here is proved to give what its comment says, for any
- * arguments: nothing is asked of the caller but that each pointer is good for its length. Numbers of refusals are those of the
- * house's paper; 0 says that a call was taken. A refused call changes no byte behind any pointer, but for the counts, which are 0,
- * and where a comment says otherwise.
+ * arguments: nothing is asked of the caller but that each pointer is good for its length and that no pointer which a call writes
+ * through overlaps another of its pointers. Numbers of refusals are those of the house's paper, the lowest that applies; 0 says
+ * that a call was taken. A refused call changes no byte behind any pointer, but for the counts, which are 0, and where a comment
+ * says otherwise.
  *
  * THE STATE IMAGE is BRIDGE_STATE_SIZE bytes:
  *
@@ -60,7 +61,8 @@ uint8_t bridge_step(uint8_t *state, size_t state_size, uint8_t kind, uint8_t val
                     uint8_t *replies, size_t replies_size, size_t replied,
                     size_t *samples_used, size_t *reply_count, size_t *action_count);
 
-/* Judges command bytes from a start: the verdict, and with BRIDGE_WRONG the place. Refused with 1, or 12 if the start waits. */
+/* Judges command bytes from a start: the verdict, and with BRIDGE_WRONG the place, else 0 there. Refused with 1, or 12 if the start
+ * waits; verdict and place then stay as they were. */
 uint8_t bridge_judge(const uint8_t *state, size_t state_size, const uint8_t *bytes, size_t bytes_size,
                      uint8_t *verdict, size_t *place);
 
@@ -73,7 +75,8 @@ uint8_t bridge_switch_on(const uint8_t *stored, size_t stored_size, const uint8_
 
 /* Replays a session as far as surely fits into the output, and says how many bytes were written. The cursor is the state and five
  * numbers, at first the factory start and zeros; it is changed to where to go on, and the replay is over when `done` is not 0.
- * With BRIDGE_REPLAY_ROOM bytes of output a call always gets further. 1 if the image is no state. */
+ * With BRIDGE_REPLAY_ROOM bytes of output a call always gets further. 1 if the image is no state; a state that breaks its ranges,
+ * which no session comes to, ends the replay with a record of refusal 1. */
 #define BRIDGE_REPLAY_ROOM 1046
 uint8_t bridge_replay(uint8_t *state, size_t state_size, size_t *at, size_t *end, size_t *sample, size_t *sampled, uint8_t *done,
                       const uint8_t *session, size_t session_size, uint8_t *output, size_t output_size, size_t *written);

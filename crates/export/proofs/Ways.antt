@@ -23,7 +23,7 @@ use Rattle.switch_on.specs.declared.SwitchedOn.{SwitchedOn}
 use Rattle.records.specs.Records as r
 use Rattle.records.specs.declared.Refusal as why
 use Rattle.export.specs.Image.{imageSize, imageOf, stateIn, isState}
-use Rattle.export.specs.Calls.{Asked, startCall, startGives, stepCall, eventAsked, outcomeNumber, imageAfter, stepAnswered, stepGives, judgeCall, verdictNumber, placeOf, judgeAnswered, judgeGives, switchCall, switchNumber, switchAnswered, switchGives}
+use Rattle.export.specs.Calls.{Asked, startCall, startGives, stepCall, eventAsked, outcomeNumber, imageAfter, stepAnswered, withoutEvent, stepGives, judgeCall, verdictNumber, placeOf, judgeAnswered, judgeGives, switchCall, switchNumber, switchAnswered, switchGives}
 use Rattle.export.specs.declared.arguments.Asked.the-variants as a
 
 module _ (image : List ℕ) where
@@ -41,9 +41,14 @@ module _ (image : List ℕ) where
     step-no-state h e = rw (h, e)
 
     module _ (h : isState image ≡ true) {x : Asked} (ex : x ≡ eventAsked kind value) where
-      pub step-no-event : {w : why.Refusal} → x ≡ a.Refused w → {n : ℕ} → n ≡ r.numberOf w → stepCall n image (l .actions) (l .replies) 0 0 0 ≡ stepGives image kind value l
+      pub step-no-event : {w : why.Refusal} → x ≡ a.Refused w → {s : State} → s ≡ stateIn image
+          → {n : ℕ} → n ≡ withoutEvent s w (length (l .samples)) (l .sampled) (length (l .actions)) (l .acted) (length (l .replies)) (l .replied)
+          → stepCall n image (l .actions) (l .replies) 0 0 0 ≡ stepGives image kind value l
       unfolding stepGives
-      step-no-event q e = rw (h, ← ex, q, e)
+      step-no-event {w} q {s} es {n} en =
+          let e : n ≡ withoutEvent (stateIn image) w (length (l .samples)) (l .sampled) (length (l .actions)) (l .acted) (length (l .replies)) (l .replied) =
+          en ∙ ap (λ (t : State). withoutEvent t w (length (l .samples)) (l .sampled) (length (l .actions)) (l .acted) (length (l .replies)) (l .replied)) es in
+          rw (h, ← ex, q, e)
 
       pub step-answers : {e : Event} → x ≡ a.Event e → {s : State} → s ≡ stateIn image
           → {y : Stepped} {as′ rs : List ℕ} → given y as′ rs ≡ answerOf (record { state = s }) e l

@@ -4,6 +4,8 @@ use mathlib.Core.Bool.{cond}
 use mathlib.Core.List.{List, [], _∷_}
 use lib.Dec.{eqb}
 use lib.ListN.{length}
+use Rattle.wire.specs.Buffer.{fitsIn}
+use Rattle.registers.specs.Ranges.{stateFits}
 use Rattle.registers.specs.declared.State.{State}
 use Rattle.registers.specs.declared.Event.the-variants as e
 use Rattle.registers.specs.declared.Fault.the-variants as k
@@ -14,7 +16,7 @@ use Rattle.bridge.specs.Calls.{Lent, Given, numberOf, answerOf}
 use Rattle.bridge.specs.declared.Bridge.{Bridge}
 use Rattle.bridge.specs.declared.Outcome.{Outcome}
 use Rattle.bridge.specs.declared.Outcome.the-variants as o
-use Rattle.bridge.specs.declared.Refusal.the-variants.{Ranges}
+use Rattle.bridge.specs.declared.Refusal.the-variants.{Ranges, Samples, Actions, Replies}
 use Rattle.bridge.specs.Judging.{judgementOf}
 use Rattle.bridge.specs.declared.Judgement.{Judgement}
 use Rattle.bridge.specs.declared.Judgement.the-variants as j
@@ -25,6 +27,7 @@ use Rattle.switch_on.specs.declared.Device.{Device}
 use Rattle.switch_on.specs.declared.Outcome as switch
 use Rattle.switch_on.specs.declared.Outcome.the-variants as s
 use Rattle.records.specs.Records as r
+use Rattle.records.specs.declared.Refusal as why
 use Rattle.records.specs.declared.Refusal.the-variants.{Kind, FaultBody}
 use Rattle.export.specs.Image.{imageSize, imageOf, stateIn, isState}
 pub use Rattle.export.specs.declared.arguments.Asked.{Asked}
@@ -86,9 +89,16 @@ abbrev pub stepAnswered : List ℕ → Given → StepCall
 stepAnswered image g =
     stepCall (outcomeNumber (g .answer .outcome)) (imageAfter (g .answer .outcome) (g .answer .bridge .state) image) (g .actions) (g .replies) (g .answer .samples) (g .answer .replies) (g .answer .actions)
 
+-- a call without an event: "the lowest number that applies", so the state and the marks are looked at before 8 and 9
+abbrev pub withoutEvent : State → why.Refusal → ℕ → ℕ → ℕ → ℕ → ℕ → ℕ → ℕ
+withoutEvent s reason samples sampled actions acted replies replied =
+    cond (stateFits s)
+    (cond (fitsIn samples sampled 0) (cond (fitsIn actions acted 0) (cond (fitsIn replies replied 0) (r.numberOf reason) (numberOf Replies)) (numberOf Actions)) (numberOf Samples))
+    (numberOf Ranges)
+
 abbrev pub stepAsked : List ℕ → Lent → Asked → StepCall
 stepAsked image l (a.Event e) = stepAnswered image (answerOf (bridgeIn image) e l)
-stepAsked image l (a.Refused why) = stepRefused (r.numberOf why) image l
+stepAsked image l (a.Refused why) = stepRefused (withoutEvent (stateIn image) why (length (l .samples)) (l .sampled) (length (l .actions)) (l .acted) (length (l .replies)) (l .replied)) image l
 
 unfoldable pub stepGives : List ℕ → ℕ → ℕ → Lent → StepCall
 stepGives image kind value l = cond (isState image) (stepAsked image l (eventAsked kind value)) (stepRefused (numberOf Ranges) image l)

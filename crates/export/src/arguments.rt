@@ -2,13 +2,14 @@
 ghost use mathlib.Core.Path.{_≡_};
 ghost use lib.ListN.{length};
 ghost use Rattle.export.specs.Image.{imageSize};
-ghost use Rattle.export.specs.Calls.{faultAsked, eventAsked, deviceOf};
+ghost use Rattle.export.specs.Calls.{faultAsked, eventAsked, withoutEvent, deviceOf};
 ghost use Rattle.export.specs.Replaying.{behind, cursorIn};
 use crate::decoding;
 use bridge::Bridge;
 use records::Refusal;
 use registers::Event;
 use registers::Fault;
+use registers::State;
 use session::replay::Cursor;
 use switch_on::Device;
 
@@ -46,6 +47,34 @@ pub(crate) fn event_of(kind: u8, value: u8) -> Asked
         return fault(value);
     }
     Asked::Refused(Refusal::Kind)
+}
+
+// The number of a call without an event: the lowest that applies.
+pub(crate) fn no_event(
+    s: State,
+    why: Refusal,
+    samples: usize,
+    sampled: usize,
+    actions: usize,
+    acted: usize,
+    replies: usize,
+    replied: usize,
+) -> u8
+    ensures { λ r. ⌜ r ≡ withoutEvent s why samples sampled actions acted replies replied ⌝ }
+{
+    if !registers::in_range(s) {
+        return bridge::number(bridge::Refusal::Ranges);
+    }
+    if !wire::fits(samples, sampled, 0) {
+        return bridge::number(bridge::Refusal::Samples);
+    }
+    if !wire::fits(actions, acted, 0) {
+        return bridge::number(bridge::Refusal::Actions);
+    }
+    if !wire::fits(replies, replied, 0) {
+        return bridge::number(bridge::Refusal::Replies);
+    }
+    records::number(why)
 }
 
 // What the device has besides an image, with its serial number as bytes.

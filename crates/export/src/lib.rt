@@ -55,7 +55,19 @@ pub extern "C" fn bridge_step(
     }
     let asked = arguments::event_of(kind, value);
     match asked {
-        Asked::Refused(why) => records::number(why),
+        Asked::Refused(why) => {
+            let s = decoding::state_of(state);
+            arguments::no_event(
+                s,
+                why,
+                samples.len(),
+                sampled,
+                actions.len(),
+                acted,
+                replies.len(),
+                replied,
+            )
+        }
         Asked::Event(event) => {
             let s = decoding::state_of(state);
             let b = Bridge { state: s };
