@@ -1,18 +1,4 @@
-//! The bench bridge between a serial line and I2C, SPI or 1-Wire, for Rust. What runs is the proved C library of
-//! `include/bridge.h`, linked in; this crate gives its functions Rust's types and asks nothing of the caller.
-//!
-//! ```
-//! use bench_bridge::{step, Event, State, WAITS_FOR_NOTHING};
-//!
-//! let start = State::factory_start();
-//! let (mut actions, mut replies) = ([0; 1028], [0; 10]);
-//! // 1A asks for COMMON_FLAGS.
-//! let taken = step(&start, Event::Byte(0x1A), &[], &mut actions, &mut replies)?;
-//! assert_eq!(replies[..taken.replies], [0]);
-//! assert_eq!(taken.actions, 0);
-//! assert_eq!(taken.state.waits_for(), WAITS_FOR_NOTHING);
-//! # Ok::<(), bench_bridge::Refusal>(())
-//! ```
+#![doc = include_str!("../README.md")]
 
 pub mod calls;
 
@@ -277,7 +263,7 @@ impl<'a> Replay<'a> {
         self.cursor.done != 0
     }
 
-    /// The state reached.
+    /// The state reached; the factory start again once the transcript is at its end.
     pub fn state(&self) -> State {
         let mut image = [0; STATE_SIZE];
         image.copy_from_slice(&self.cursor.state);

@@ -72,7 +72,8 @@ fn whole_case() {
     assert_eq!(replay.fill(&mut [0; 8]), 0);
     assert!(!replay.is_over());
     assert_eq!(replay.by_ref().flatten().collect::<Vec<u8>>(), transcript);
-    assert_eq!((replay.is_over(), replay.state().flags()), (true, 9));
+    // Nothing of the session lingers in a cursor that is over.
+    assert!(replay.is_over() && replay.state() == State::factory_start());
 }
 
 #[test]
