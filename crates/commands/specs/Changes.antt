@@ -1,31 +1,15 @@
 -- For the contracts of the clauses' functions, which name what changes of the state and leave the state itself alone; 01 does not
 -- speak of it. What a decision comes to is a plan.
-use Prim.Native.Nat.{ℕ}
-use mathlib.Core.List.{List}
 use lib.ListN.{set}
-use Rattle.packet.specs.Packet.{width, loaded}
-use Rattle.registers.specs.Registers.{highFirst, bitsIn, withRegister, withFlags, withError, withPage, withShared, withSize, withPacket, withTimings, configuredAs, waiting, holding, settled}
-use Rattle.registers.specs.declared.Page.{Page}
+use Rattle.registers.specs.Registers.{withRegister, withFlags, withError, withPage, withShared, withSize, withTimings, configuredAs, waiting, holding, settled}
 use Rattle.registers.specs.declared.State.{State}
 use Rattle.registers.specs.declared.PortRegister.the-variants as r
-use Rattle.registers.specs.declared.Wait.the-variants as v
 use Rattle.commands.specs.Plans.{Plan, plan}
-use Rattle.commands.specs.Common.{resetPage, imageOf, withEprom}
+use Rattle.commands.specs.Common.{resetPage, reinited, imageOf, withEprom}
+use Rattle.commands.specs.Events.{counted, loadedState}
 pub use Rattle.commands.specs.declared.Change.{Change}
 pub use Rattle.commands.specs.declared.Change.the-variants as c
 pub use Rattle.commands.specs.declared.Decision.{Decision}
-
--- the IOG count another, and nothing waited for
-abbrev pub counted : State → ℕ → State
-counted s x = record { page = s .page; shared = record { eprom = s .shared .eprom; cycles = x; version = s .shared .version; serial = s .shared .serial }; wait = v.Nothing; held = (settled s (s .page)) .held }
-
--- the packet register loaded from what is held, and nothing waited for
-abbrev pub loadedFrom : State → List ℕ → State
-loadedFrom s held = settled s (withPacket (s .page) (loaded width (bitsIn (s .page)) (highFirst (s .page .config)) held))
-
--- other flags, and "all directions and latches 0"
-abbrev pub reinited : Page → ℕ → Page
-reinited p f = record { flags = f; error = p .error; ddrb = 0; portb = 0; ddrc = 0; portc = 0; ddrd = 0; portd = 0; config = p .config; configured = p .configured; size = p .size; packet = p .packet; timings = p .timings }
 
 abbrev pub changed : State → Change → State
 changed s c.Nothing = s
@@ -42,7 +26,7 @@ changed s (c.Cycles x) = counted s x
 changed s (c.Config x) = settled s (configuredAs (s .page) x)
 changed s (c.Size x) = settled s (withSize (s .page) x)
 changed s (c.Hold w at b) = holding s w (set (s .held) at b)
-changed s (c.LoadPacket at b) = loadedFrom s (set (s .held) at b)
+changed s (c.LoadPacket at b) = loadedState s (set (s .held) at b)
 changed s (c.LoadTimings at b) = settled s (withTimings (s .page) (set (s .held) at b))
 
 abbrev pub decided : State → Decision → Plan

@@ -68,9 +68,13 @@ keptFlags flags = flags / 8 % 4 * 8
 abbrev pub resetPage : Page → Page
 resetPage p = record { flags = keptFlags (p .flags); error = 0; ddrb = 0; portb = 0; ddrc = 0; portc = 0; ddrd = 0; portd = 0; config = 0; configured = false; size = 0; packet = p .packet; timings = p .timings }
 
+-- other flags, and "all directions and latches 0"
+abbrev pub reinited : Page → ℕ → Page
+reinited p f = record { flags = f; error = p .error; ddrb = 0; portb = 0; ddrc = 0; portc = 0; ddrd = 0; portd = 0; config = p .config; configured = p .configured; size = p .size; packet = p .packet; timings = p .timings }
+
 -- 01, 02, 03: "clear the same common flags, set their own; reinit .. SPI settings stay"
 abbrev pub chosenPage : Page → ℕ → Page
-chosenPage p flag = record { flags = keptFlags (p .flags) + flag; error = p .error; ddrb = 0; portb = 0; ddrc = 0; portc = 0; ddrd = 0; portd = 0; config = p .config; configured = p .configured; size = p .size; packet = p .packet; timings = p .timings }
+chosenPage p flag = reinited p (keptFlags (p .flags) + flag)
 
 -- 05: "COMMON_FLAGS, DDRB, PORTB, DDRC, PORTC, DDRD, PORTD (order H), then CONFIG_SPI, PAKET_SIZE and 08 or 00 for configured, or
 -- FF FF FF if SPI isn't selected"

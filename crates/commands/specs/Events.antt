@@ -5,7 +5,7 @@ use mathlib.Core.List.{List}
 use lib.Dec.{eqb, ltb}
 use lib.ListN.{set}
 use Rattle.packet.specs.Packet.{width, packetBytes, sizeRegister, loaded}
-use Rattle.registers.specs.Registers.{i2cSelected, spiSelected, wireSelected, highFirst, bitsIn, registerOf, withRegister, protected, verbOf, lineOf, faultCode, configuredAs, withSize, withPacket, withTimings, holding, settled}
+use Rattle.registers.specs.Registers.{i2cSelected, spiSelected, wireSelected, highFirst, bitsIn, registerOf, withRegister, protected, verbOf, lineOf, faultCode, configuredAs, withSize, withPacket, withTimings, withShared, holding, settled}
 use Rattle.registers.specs.declared.State.{State}
 use Rattle.registers.specs.declared.PortRegister.{PortRegister}
 use Rattle.registers.specs.declared.Operand.{Operand}
@@ -40,9 +40,11 @@ portPlan s r x =
     plan (settled s (withRegister (s .page) r (protected r (registerOf (s .page) r) x))) (w.Port (verbOf r) (lineOf r) (protected r (registerOf (s .page) r) x)) Silent
 
 -- "one operand becomes the IOG count, no code (H)"
+abbrev pub counted : State → ℕ → State
+counted s x = withShared (settled s (s .page)) (record { eprom = s .shared .eprom; cycles = x; version = s .shared .version; serial = s .shared .serial })
+
 abbrev pub cyclesPlan : State → ℕ → Plan
-cyclesPlan s x =
-    plan (record { page = s .page; shared = record { eprom = s .shared .eprom; cycles = x; version = s .shared .version; serial = s .shared .serial }; wait = v.Nothing; held = (settled s (s .page)) .held }) w.Still Silent
+cyclesPlan s x = plan (counted s x) w.Still Silent
 
 abbrev pub operandPlan : State → Operand → ℕ → Plan
 operandPlan s (o.ToPort r) x = portPlan s r x
