@@ -25,7 +25,7 @@ use Rattle.session.proofs.Rest.{falls, rest-step, left-live, left-done}
 use Rattle.session.proofs.Ranged.{turn-ranged}
 
 -- a step from a state in range, in a session that is not too long
-step-in-range : (s : List ℕ) (c : Cursor) → InRange (c .bridge .state) → length s ≤ 32768 → stepOf s c ≡ turnOf s c (foundAt s (c .at) (c .end))
+pub step-in-range : (s : List ℕ) (c : Cursor) → InRange (c .bridge .state) → length s ≤ 32768 → stepOf s c ≡ turnOf s c (foundAt s (c .at) (c .end))
 unfolding stepOf
 step-in-range s c n h = rw (le-leb (length s) 32768 h, range-test (c .bridge .state) .1 n)
 

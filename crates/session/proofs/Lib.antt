@@ -6,3 +6,4 @@ pub mod Steps
 pub mod Rest
 pub mod Ranged
 pub mod Going
+pub mod Advancing

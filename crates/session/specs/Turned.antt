@@ -8,8 +8,8 @@ use lib.Dec.{eqb}
 use lib.ListN.{length}
 use Rattle.wire.specs.Buffer.{overwrite, Written}
 use Rattle.records.specs.Records.{headOf}
-use Rattle.session.specs.Replay.{Cursor, Turn}
-use Rattle.session.specs.Runs.{Ran, mostOutput}
+use Rattle.session.specs.Replay.{Cursor, Turn, stepOf}
+use Rattle.session.specs.Runs.{Ran, mostOutput, left}
 
 -- the turn is made, and its bytes are at the front of a buffer that held o and then holds x
 pub record Turned (t : Turn) (o x : List ℕ) (r : Ran) : Type 0 where
@@ -27,3 +27,10 @@ abbrev pub Barred : Cursor → Turn → List ℕ → List ℕ → Ran → Type 0
 Barred c t o x r =
     (((c .done ≡ true) ⊎ (length o < mostOutput)) × (r ≡ record { cursor = c; written = 0 }) × (x ≡ o))
     ⊎ ((c .done ≡ false) × (mostOutput ≤ length o) × Turned t o x r)
+
+-- ONE STEP OF THE RUN on a session s from a cursor c, with a lent buffer that held o and then holds x
+pub record Advances (s : List ℕ) (c : Cursor) (o x : List ℕ) (r : Ran) : Type 0 where
+  pub made : Barred c (stepOf s c) o x r
+  pub within : r .written ≤ length o
+  -- with room and work it gets further, so that repeated steps end
+  pub further : mostOutput ≤ length o → c .done ≡ false → left s (r .cursor) < left s c

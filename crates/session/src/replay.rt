@@ -7,7 +7,7 @@ ghost use Rattle.registers.specs.Ranges.{InRange};
 ghost use Rattle.records.specs.Found.{foundAt};
 ghost use Rattle.session.specs.Replay.{begin, finished, lentTo, turnOf, stopped};
 ghost use Rattle.session.specs.Runs.{mostOutput, Runs};
-ghost use Rattle.session.specs.Turned.{Turned, Barred};
+ghost use Rattle.session.specs.Turned.{Turned, Barred, Advances};
 use crate::events;
 use crate::output;
 use bridge::Bridge;
@@ -171,4 +171,25 @@ pub fn run(c: Cursor, session: &[u8], out: &mut [u8]) -> Ran
         return bar(c, Refusal::Ranges, c.at, out);
     }
     go_on(c, session, out)
+}
+
+// One step, for a reader of each event by itself: made if there is work and room for any step, else nothing is done. Any cursor
+// and any output will do.
+pub fn advance(c: Cursor, session: &[u8], out: &mut [u8]) -> Ran
+    ensures { λ r. ⌜ Advances (now (session .entry)) c (now (out .entry)) (now (out .exit)) r ⌝ }
+{
+    if c.done | (out.len() < MOST_OUTPUT) {
+        return Ran {
+            cursor: c,
+            written: 0,
+        };
+    }
+    if MOST_SESSION < session.len() {
+        return events::stop(Refusal::Size, 0, out);
+    }
+    let s = c.bridge.state;
+    if !registers::in_range(s) {
+        return events::stop(Refusal::Ranges, c.at, out);
+    }
+    step(c, session, out)
 }
