@@ -1,0 +1,70 @@
+// The commands of the list 001 by name, code and number of operands: 74 rows in 01's order. 01 leaves out the extended commands
+// 00 and 04 to 07.
+ghost use mathlib.Core.Path.{_≡_};
+ghost use Rattle.names.specs.Names.{nameAt, codeAt, isExtended, operandsAt, rowOf};
+use crate::tables::CODES;
+use crate::tables::NAMES;
+use crate::tables::OPERANDS;
+
+mod tables;
+
+// How many rows there are, and the bytes of a name padded with blanks.
+pub const ROWS: usize = 74;
+
+pub const WIDTH: usize = 24;
+
+// The rows of the extended commands.
+const FIRST_EXTENDED: usize = 31;
+
+const LAST_EXTENDED: usize = 41;
+
+// The name of a row's command; all blanks past the table.
+pub fn name(row: usize) -> [u8; WIDTH]
+    ensures { λ r. ⌜ r ≡ nameAt row ⌝ }
+{
+    if ROWS <= row {
+        return [b' '; WIDTH];
+    }
+    NAMES[row]
+}
+
+// The byte of a row's command, for an extended one the byte after 1D; 0 past the table.
+pub fn code(row: usize) -> u8
+    ensures { λ r. ⌜ r ≡ codeAt row ⌝ }
+{
+    if ROWS <= row {
+        return 0;
+    }
+    CODES[row]
+}
+
+// Whether a row's command comes after 1D.
+pub fn extended(row: usize) -> bool
+    ensures { λ r. ⌜ r ≡ isExtended row ⌝ }
+{
+    (FIRST_EXTENDED <= row) & (row <= LAST_EXTENDED)
+}
+
+// How many operand bytes follow a row's command; of 44 and 4C the most, 8, since theirs are ceil(N/8). 0 past the table.
+pub fn operands(row: usize) -> u8
+    ensures { λ r. ⌜ r ≡ operandsAt row ⌝ }
+{
+    if ROWS <= row {
+        return 0;
+    }
+    OPERANDS[row]
+}
+
+// The row of a code, common or extended; ROWS if it has none.
+pub fn find(code: u8, is_extended: bool) -> usize
+    ensures { λ r. ⌜ r ≡ rowOf code «is_extended» ⌝ }
+{
+    let mut row: usize = 0;
+    while row < ROWS {
+        if (CODES[row] == code) & (extended(row) == is_extended) {
+            return row;
+        }
+        row += 1;
+    }
+    ROWS
+}
