@@ -1,0 +1,86 @@
+-- What is said of a list that was read to the front of a buffer. Assumes nothing.
+use Prim.Native.Nat.{ℕ, _+_, _-_, _≤_, _<_}
+use mathlib.Core.Path.{_≡_, refl, sym, ap, _∙_, subst}
+use mathlib.Core.List.{List, [], _∷_, _++_}
+use native.Mathlib.Omega.{arith}
+use native.Mathlib.Nat.{zero-add, sub-zero}
+use borrow.Author.Tests.{lt-ltb}
+use lib.Dec.{eqb}
+use lib.ListN.{length, take, length-append}
+use Rattle.wire.specs.Buffer.{overwrite, Written}
+use Rattle.wire.proofs.Buffers.{overwrite-length, overwrite-append, overwrite-through}
+use Rattle.names.specs.Names.{isExtended}
+use Rattle.records.proofs.Choices.{by-cond, by-bool}
+use Rattle.script.specs.Words.{Word}
+use Rattle.script.specs.Lists.{Reads, Expected, Stop, Assembled, listOf}
+use Rattle.script.specs.Statements.{most, Statement, nothing, bytes, wrong, listSaid, listAt, opening, takes, commandSaid, commandAt, meant, Within, Says}
+use Rattle.script.specs.Said.{listEnded, listSaying, commandEnded, commandSaying}
+use Rattle.script.specs.declared.Stop.the-variants as s
+use Rattle.script.specs.declared.statements.Said.{Said}
+use Rattle.script.specs.declared.statements.Said.the-variants as d
+
+-- the front of a buffer that bytes were written to
+pub front : (o zs : List ℕ) → length zs ≤ length o → take (length zs) (overwrite o 0 zs) ≡ zs
+front o zs h = ap (λ (k : ℕ). take k (overwrite o 0 zs)) (sym (zero-add (length zs))) ∙ overwrite-through o 0 zs (omega arith)
+
+-- A LIST
+module _ (kind p : ℕ) (o xs : List ℕ) (h : length xs ≤ length o) where
+  list-ended : (w : Stop) → Says (listSaid kind p xs w) (overwrite o 0 xs) (listEnded kind p (length xs) w)
+  list-ended s.Done =
+      by-bool (eqb (length xs) 0)
+      (λ e. rw e (record { is = refl; within = tt }))
+      (λ e. rw e (record { is = ap (λ (l : List ℕ). bytes kind l) (sym (front o xs h)); within = omega (arith, overwrite-length o 0 xs) }))
+  list-ended (s.Wrong q e) = record { is = refl; within = tt }
+
+pub says-list : (t : List ℕ) (kind p : ℕ) {o x : List ℕ} {a : Assembled} → length o ≡ most → Reads (listOf t (length o - 0) p) o 0 x a → Says (listAt t kind p) x (listSaying kind p a)
+says-list t kind p {o} {x} {a} e r =
+    let room : length o - 0 ≡ most = sub-zero (length o) ∙ e in
+    let d : Reads (listOf t most p) o 0 x a = subst (λ (n : ℕ). Reads (listOf t n p) o 0 x a) room r in
+    let n : a .size ≡ length (listOf t most p .bytes) = d .size ∙ zero-add (length (listOf t most p .bytes)) in
+    rw (d .bytes, n, d .stop) (list-ended kind p o (listOf t most p .bytes) (omega (arith, n, d .within)) (listOf t most p .stop))
+
+-- A COMMAND WITH ITS OPERANDS
+module _ (row p : ℕ) (o xs : List ℕ) (h : length (opening row ++ xs) ≤ length o) where
+  command-ended : (w : Stop) → Says (commandSaid row p xs w) (overwrite o 0 (opening row ++ xs)) (commandEnded row p (length (opening row)) (length (opening row ++ xs)) w)
+  command-ended s.Done =
+      let n : length (opening row ++ xs) - length (opening row) ≡ length xs = omega (arith, length-append (opening row) xs) in
+      by-bool (takes row (length xs))
+      (λ e. rw (n, e) (record { is = ap (λ (l : List ℕ). bytes 1 l) (sym (front o (opening row ++ xs) h)); within = omega (arith, overwrite-length o 0 (opening row ++ xs)) }))
+      (λ e. rw (n, e) (record { is = refl; within = tt }))
+  command-ended (s.Wrong q e) = record { is = refl; within = tt }
+
+pub opened : (row : ℕ) {o y : List ℕ} {n : ℕ} → length o ≡ most → Written o 0 (opening row) y n → n ≤ length y
+opened row {o} {y} {n} e w =
+    let m : length (opening row) ≤ 2 = by-cond (λ (l : List ℕ). length l ≤ 2) (isExtended row) (λ _. omega arith) (λ _. omega arith) in
+    omega (arith, m, w .after, overwrite-length o 0 (opening row), ap length (w .bytes))
+
+pub says-command : (t : List ℕ) (w : Word) (row : ℕ) {o y x : List ℕ} {n : ℕ} {a : Assembled} → row < 74 → length o ≡ most
+    → Written o 0 (opening row) y n → Reads (listOf t (length y - n) (w .end)) y n x a → Says (commandAt t w row) x (commandSaying row (w .start) n a)
+says-command t w row {o} {y} {x} {n} {a} h e u r =
+    let l = opening row in
+    let k : n ≡ length l = u .after ∙ zero-add (length l) in
+    let room : length y - n ≡ most - length l = omega (arith, k, e, ap length (u .bytes), overwrite-length o 0 l) in
+    let d : Reads (listOf t (most - length l) (w .end)) y n x a = subst (λ (m : ℕ). Reads (listOf t m (w .end)) y n x a) room r in
+    let xs = listOf t (most - length l) (w .end) .bytes in
+    let b : x ≡ overwrite o 0 (l ++ xs) = d .bytes ∙ rw (u .bytes, u .after) (overwrite-append o 0 l xs) in
+    let z : a .size ≡ length (l ++ xs) = d .size ∙ rw k (sym (length-append l xs)) in
+    rw (lt-ltb row 74 h, b, k, z, d .stop) (command-ended row (w .start) o xs (omega (arith, z, d .within, ap length (u .bytes), overwrite-length o 0 l)) (listOf t (most - length l) (w .end) .stop))
+
+-- A FAULT, one byte
+pub says-fault : (code : ℕ) {o x : List ℕ} {n : ℕ} → length o ≡ most → Written o 0 (code ∷ []) x n → Says (bytes 2 (code ∷ [])) x (d.Bytes 2 n)
+says-fault code {o} {x} {n} e w =
+    rw (w .bytes, w .after) (record { is = ap (λ (l : List ℕ). bytes 2 l) (sym (front o (code ∷ []) (omega (arith, e)))); within = omega (arith, e, overwrite-length o 0 (code ∷ [])) })
+
+-- WHAT WAS SAID
+module _ {st : Statement} {l : List ℕ} {r : Said} (h : Says st l r) where
+  pub said-nothing : r ≡ d.Nothing → st ≡ nothing
+  said-nothing e = h .is ∙ ap (λ (x : Said). meant l x) e
+
+  pub said-bytes : {kind n : ℕ} → r ≡ d.Bytes kind n → st ≡ bytes kind (take n l)
+  said-bytes e = h .is ∙ ap (λ (x : Said). meant l x) e
+
+  pub said-within : {kind n : ℕ} → r ≡ d.Bytes kind n → n ≤ length l
+  said-within e = subst (λ (x : Said). Within l x) e (h .within)
+
+  pub said-wrong : {p : ℕ} {z : Expected} → r ≡ d.Wrong p z → st ≡ wrong p z
+  said-wrong e = h .is ∙ ap (λ (x : Said). meant l x) e

@@ -1,0 +1,25 @@
+-- For the contracts of a statement's parts: what is said of a list that was read to a buffer.
+use Prim.Native.Nat.{ℕ, _-_}
+use mathlib.Core.Bool.{cond}
+use lib.Dec.{eqb}
+use Rattle.names.specs.Names.{operandsAt}
+use Rattle.script.specs.Lists.{Stop, Assembled}
+use Rattle.script.specs.Statements.{takes}
+use Rattle.script.specs.declared.Expected.the-variants as x
+use Rattle.script.specs.declared.Stop.the-variants as s
+use Rattle.script.specs.declared.statements.Said.{Said}
+use Rattle.script.specs.declared.statements.Said.the-variants as d
+
+abbrev pub listEnded : ℕ → ℕ → ℕ → Stop → Said
+listEnded kind p n s.Done = cond (eqb n 0) (d.Wrong p x.Byte) (d.Bytes kind n)
+listEnded kind p n (s.Wrong q e) = d.Wrong q e
+
+abbrev pub listSaying : ℕ → ℕ → Assembled → Said
+listSaying kind p r = listEnded kind p (r .size) (r .stop)
+
+abbrev pub commandEnded : ℕ → ℕ → ℕ → ℕ → Stop → Said
+commandEnded row p from n s.Done = cond (takes row (n - from)) (d.Bytes 1 n) (d.Wrong p (x.Operands (operandsAt row)))
+commandEnded row p from n (s.Wrong q e) = d.Wrong q e
+
+abbrev pub commandSaying : ℕ → ℕ → ℕ → Assembled → Said
+commandSaying row p from r = commandEnded row p from (r .size) (r .stop)

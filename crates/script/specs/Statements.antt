@@ -1,0 +1,89 @@
+-- The statements of a script, one a line: `send` and `samples` with a list of bytes, `fault` with its name, or a command's name
+-- with its operands.
+use Prim.Native.Nat.{ℕ, _-_, _≤_}
+use mathlib.Core.Path.{_≡_}
+use mathlib.Core.Bool.{Bool, cond, _&&_}
+use mathlib.Core.List.{List, [], _∷_, _++_}
+use lib.Dec.{eqb, leb, ltb}
+use lib.ListN.{length, take}
+use Rattle.names.specs.Names.{bytes as text, codeAt, operandsAt, isExtended}
+use Rattle.script.specs.Words.{Word, wordAt, textOf, same}
+use Rattle.script.specs.Lists.{listOf, Expected, Stop}
+use Rattle.script.specs.Parts.{rowNamed}
+use Rattle.script.specs.declared.Expected.the-variants as x
+use Rattle.script.specs.declared.Stop.the-variants as s
+use Rattle.script.specs.declared.statements.Said.{Said}
+use Rattle.script.specs.declared.statements.Said.the-variants as d
+
+-- the most bytes of a session, and so of a list
+abbrev pub most : ℕ
+most = 32768
+
+-- WHAT A LINE SAYS: nothing, bytes for records of a kind, or what is wrong at a place
+pub data Statement : Type 0 where
+  nothing : Statement
+  bytes : ℕ → List ℕ → Statement
+  wrong : ℕ → Expected → Statement
+
+-- a list after a keyword that ends at a place: one byte at the least
+abbrev pub listSaid : ℕ → ℕ → List ℕ → Stop → Statement
+listSaid kind p xs s.Done = cond (eqb (length xs) 0) (wrong p x.Byte) (bytes kind xs)
+listSaid kind p xs (s.Wrong q e) = wrong q e
+
+-- a fault's code by its name, 0 if it has none
+abbrev pub faultNamed : List ℕ → ℕ
+faultNamed w = cond (same w (text "frame")) 0x81 (cond (same w (text "overrun")) 0x82 (cond (same w (text "parity")) 0x83 0))
+
+-- .. and then the line's end
+abbrev pub faultSaid : ℕ → Word → Statement
+faultSaid code v = cond (eqb (v .start) (v .end)) (bytes 2 (code ∷ [])) (wrong (v .start) x.LineEnd)
+
+abbrev pub faultAt : List ℕ → Word → Statement
+faultAt t w = cond (eqb (faultNamed (textOf t w)) 0) (wrong (w .start) x.Fault) (faultSaid (faultNamed (textOf t w)) (wordAt t (w .end)))
+
+-- a command's bytes before its operands: 1D before an extended one
+abbrev pub opening : ℕ → List ℕ
+opening row = cond (isExtended row) (0x1D ∷ codeAt row ∷ []) (codeAt row ∷ [])
+
+-- whether a command takes so many operands; a packet has one to eight bytes, by a size that earlier bytes set
+abbrev pub takes : ℕ → ℕ → Bool
+takes row n = cond (eqb (operandsAt row) 8) (leb 1 n && leb n 8) (eqb n (operandsAt row))
+
+abbrev pub commandSaid : ℕ → ℕ → List ℕ → Stop → Statement
+commandSaid row p xs s.Done = cond (takes row (length xs)) (bytes 1 (opening row ++ xs)) (wrong p (x.Operands (operandsAt row)))
+commandSaid row p xs (s.Wrong q e) = wrong q e
+
+-- a command whose name is the word, if there is one
+abbrev pub commandAt : List ℕ → Word → ℕ → Statement
+commandAt t w row =
+    cond (ltb row 74) (commandSaid row (w .start) (listOf t (most - length (opening row)) (w .end) .bytes) (listOf t (most - length (opening row)) (w .end) .stop)) (wrong (w .start) x.Statement)
+
+-- THE STATEMENT by its first word, and at a place of the text
+abbrev pub listAt : List ℕ → ℕ → ℕ → Statement
+listAt t kind p = listSaid kind p (listOf t most p .bytes) (listOf t most p .stop)
+
+abbrev pub statementBy : List ℕ → Word → Statement
+statementBy t w =
+    cond (eqb (w .start) (w .end)) nothing
+    (cond (same (textOf t w) (text "send")) (listAt t 1 (w .end))
+    (cond (same (textOf t w) (text "samples")) (listAt t 3 (w .end))
+    (cond (same (textOf t w) (text "fault")) (faultAt t (wordAt t (w .end)))
+    (commandAt t w (rowNamed (textOf t w))))))
+
+unfoldable pub statementAt : List ℕ → ℕ → Statement
+statementAt t p = statementBy t (wordAt t p)
+
+-- what is said, with its bytes at the front of a buffer that holds l
+abbrev pub meant : List ℕ → Said → Statement
+meant l d.Nothing = nothing
+meant l (d.Bytes kind n) = bytes kind (take n l)
+meant l (d.Wrong p e) = wrong p e
+
+abbrev pub Within : List ℕ → Said → Type 0
+Within l d.Nothing = Unit {0}
+Within l (d.Bytes kind n) = n ≤ length l
+Within l (d.Wrong p e) = Unit {0}
+
+pub record Says (st : Statement) (l : List ℕ) (r : Said) : Type 0 where
+  pub is : st ≡ meant l r
+  pub within : Within l r

@@ -1,0 +1,97 @@
+// A script, which is a text, made into the records of a session.
+ghost use mathlib.Core.Path.{_≡_};
+ghost use Prim.Native.Nat.{_-_, _≤_};
+ghost use lib.ListN.{length};
+ghost use Rattle.script.specs.Lists.{Reads};
+ghost use Rattle.script.specs.Statements.{most};
+ghost use Rattle.script.specs.Script.{lineOf, scriptOf};
+
+mod cut;
+mod lists;
+mod named;
+mod numbers;
+pub mod place;
+mod statements;
+mod words;
+
+use statements::Said;
+use words::Class;
+
+// What a script was expected to have where it is wrong.
+pub enum Expected {
+    Statement,
+    Byte,
+    Count,
+    Fault,
+    LineEnd,
+    Operands(u8),
+    Room,
+}
+
+// Why reading stopped: all is read, or something is wrong at a place.
+pub enum Stop {
+    Done,
+    Wrong { place: usize, expected: Expected },
+}
+
+// How many bytes of a buffer hold what was read, and why reading stopped.
+pub struct Assembled {
+    pub size: usize,
+    pub stop: Stop,
+}
+
+// A line and a column, both from 1.
+pub struct Position {
+    pub line: usize,
+    pub column: usize,
+}
+
+// The most bytes of a session.
+const MOST_SESSION: usize = 32768;
+
+// The records of the line at a place, to the output from a place on, with the statement's bytes in a buffer of its own.
+fn line(text: &[u8], at: usize, body: &mut [u8], out: &mut [u8], size: usize) -> Assembled
+    requires { ⌜ (at ≤ length (now text)) × (length (now body) ≡ most) × (size ≤ length (now out)) ⌝ }
+    ensures { λ r. ⌜ Reads (lineOf (now (text .entry)) (length (now (out .entry)) - size) at) (now (out .entry)) size (now (out .exit)) r ⌝ }
+{
+    let said = statements::statement(text, at, body);
+    match said {
+        Said::Nothing => Assembled {
+            size,
+            stop: Stop::Done,
+        },
+        Said::Bytes { kind, size: n } => cut::put_records(out, size, kind, &body[..n], at),
+        Said::Wrong { place, expected } => {
+            let stop = Stop::Wrong { place, expected };
+            Assembled { size, stop }
+        }
+    }
+}
+
+// A script's records, to the front of the output, up to the first line that is wrong or does not fit. Any text and any output
+// will do.
+pub fn assemble(text: &[u8], out: &mut [u8]) -> Assembled
+    ensures { λ r. ⌜ Reads (scriptOf (now (text .entry)) (length (now (out .entry)))) (now (out .entry)) 0 (now (out .exit)) r ⌝ }
+{
+    let mut body = [0u8; MOST_SESSION];
+    let mut at: usize = 0;
+    let mut size: usize = 0;
+    while at < text.len() {
+        let r = line(text, at, &mut body, out, size);
+        let stop = r.stop;
+        size = r.size;
+        match stop {
+            Stop::Done => {
+                at = words::past(text, Class::Line, at) + 1;
+            }
+            Stop::Wrong { place, expected } => {
+                let stop = Stop::Wrong { place, expected };
+                return Assembled { size, stop };
+            }
+        }
+    }
+    Assembled {
+        size,
+        stop: Stop::Done,
+    }
+}

@@ -1,0 +1,198 @@
+// The statements of a script.
+ghost use mathlib.Core.Path.{_≡_};
+ghost use Prim.Native.Nat.{_≤_, _<_};
+ghost use lib.ListN.{length};
+ghost use Rattle.wire.specs.Buffer.{Written};
+ghost use Rattle.script.specs.Statements.{most, faultNamed, faultAt, opening, takes, commandAt, listAt, statementBy, statementAt, Says};
+ghost use Rattle.script.specs.Said.{listSaying, commandSaying};
+use crate::Assembled;
+use crate::Expected;
+use crate::Stop;
+use crate::lists::list;
+use crate::named::row_named;
+use crate::words::Word;
+use crate::words::word_at;
+
+// The kinds of records.
+const BYTES: u16 = 1;
+
+const FAULT: u16 = 2;
+
+const SAMPLES: u16 = 3;
+
+// The byte before an extended command's.
+const EXTENDED: u8 = 0x1D;
+
+// How many bytes a packet has at the most; its number of operands in the list of names.
+const PACKET: usize = 8;
+
+// What a line says: nothing, so many bytes at the front of a buffer for records of a kind, or what is wrong at a place.
+pub(crate) enum Said {
+    Nothing,
+    Bytes { kind: u16, size: usize },
+    Wrong { place: usize, expected: Expected },
+}
+
+// A list of a kind after a keyword that ends at a place, read to a buffer.
+fn list_said(kind: u16, place: usize, r: Assembled) -> Said
+    ensures { λ s. ⌜ s ≡ listSaying kind place r ⌝ }
+{
+    let stop = r.stop;
+    let size = r.size;
+    match stop {
+        Stop::Done => {
+            if size == 0 {
+                return Said::Wrong {
+                    place,
+                    expected: Expected::Byte,
+                };
+            }
+            Said::Bytes { kind, size }
+        }
+        Stop::Wrong { place, expected } => Said::Wrong { place, expected },
+    }
+}
+
+// The code of the fault that a word names, 0 if there is none.
+fn fault_named(word: &[u8]) -> u8
+    ensures { λ r. ⌜ r ≡ faultNamed (now (word .entry)) ⌝ }
+{
+    if check::same(word, b"frame") {
+        return 0x81;
+    }
+    if check::same(word, b"overrun") {
+        return 0x82;
+    }
+    if check::same(word, b"parity") {
+        return 0x83;
+    }
+    0
+}
+
+// A fault by the word that names it.
+fn fault(text: &[u8], w: Word, body: &mut [u8]) -> Said
+    requires { ⌜ (w .start ≤ w .end) × (w .end ≤ length (now text)) × (length (now body) ≡ most) ⌝ }
+    ensures { λ r. ⌜ Says (faultAt (now (text .entry)) w) (now (body .exit)) r ⌝ }
+{
+    let from = w.start;
+    let to = w.end;
+    let code = fault_named(&text[from..to]);
+    if code == 0 {
+        return Said::Wrong {
+            place: from,
+            expected: Expected::Fault,
+        };
+    }
+    let end = word_at(text, to);
+    if end.start == end.end {
+        let size = wire::put_bytes(body, 0, &[code]);
+        return Said::Bytes { kind: FAULT, size };
+    }
+    Said::Wrong {
+        place: end.start,
+        expected: Expected::LineEnd,
+    }
+}
+
+// The bytes of a row's command before its operands, to the front of a buffer.
+fn put_opening(row: usize, body: &mut [u8]) -> usize
+    requires { ⌜ length (now body) ≡ most ⌝ }
+    ensures { λ n. ⌜ Written (now (body .entry)) 0 (opening row) (now (body .exit)) n ⌝ }
+{
+    let code = names::code(row);
+    if names::extended(row) {
+        return wire::put_bytes(body, 0, &[EXTENDED, code]);
+    }
+    wire::put_bytes(body, 0, &[code])
+}
+
+// Whether a row's command takes so many operands.
+fn takes(row: usize, n: usize) -> bool
+    ensures { λ r. ⌜ r ≡ takes row n ⌝ }
+{
+    let most = names::operands(row) as usize;
+    if most == PACKET {
+        return (1 <= n) & (n <= PACKET);
+    }
+    n == most
+}
+
+// A row's command with its name's place, with its operands read behind its first bytes.
+fn command_said(row: usize, place: usize, from: usize, r: Assembled) -> Said
+    requires { ⌜ from ≤ r .size ⌝ }
+    ensures { λ s. ⌜ s ≡ commandSaying row place from r ⌝ }
+{
+    let stop = r.stop;
+    let size = r.size;
+    match stop {
+        Stop::Done => {
+            if takes(row, size - from) {
+                return Said::Bytes { kind: BYTES, size };
+            }
+            Said::Wrong {
+                place,
+                expected: Expected::Operands(names::operands(row)),
+            }
+        }
+        Stop::Wrong { place, expected } => Said::Wrong { place, expected },
+    }
+}
+
+// A command by its row, past the list's end if the word names none.
+fn command(text: &[u8], w: Word, row: usize, body: &mut [u8]) -> Said
+    requires { ⌜ (w .start ≤ w .end) × (w .end ≤ length (now text)) × (length (now body) ≡ most) ⌝ }
+    ensures { λ r. ⌜ Says (commandAt (now (text .entry)) w row) (now (body .exit)) r ⌝ }
+{
+    let place = w.start;
+    if names::ROWS <= row {
+        return Said::Wrong {
+            place,
+            expected: Expected::Statement,
+        };
+    }
+    let from = put_opening(row, body);
+    let r = list(text, w.end, body, from);
+    command_said(row, place, from, r)
+}
+
+// A list of a kind, after a keyword that ends at a place.
+fn list_at(text: &[u8], kind: u16, at: usize, body: &mut [u8]) -> Said
+    requires { ⌜ (at ≤ length (now text)) × (length (now body) ≡ most) ⌝ }
+    ensures { λ r. ⌜ Says (listAt (now (text .entry)) kind at) (now (body .exit)) r ⌝ }
+{
+    let r = list(text, at, body, 0);
+    list_said(kind, at, r)
+}
+
+// The statement that begins with a word.
+fn statement_by(text: &[u8], w: Word, body: &mut [u8]) -> Said
+    requires { ⌜ (w .start ≤ w .end) × (w .end ≤ length (now text)) × (length (now body) ≡ most) ⌝ }
+    ensures { λ r. ⌜ Says (statementBy (now (text .entry)) w) (now (body .exit)) r ⌝ }
+{
+    let from = w.start;
+    let to = w.end;
+    if from == to {
+        return Said::Nothing;
+    }
+    let word = &text[from..to];
+    if check::same(word, b"send") {
+        return list_at(text, BYTES, to, body);
+    }
+    if check::same(word, b"samples") {
+        return list_at(text, SAMPLES, to, body);
+    }
+    if check::same(word, b"fault") {
+        return fault(text, word_at(text, to), body);
+    }
+    command(text, w, row_named(word), body)
+}
+
+// The statement of the line at a place of the text, with its bytes at the front of a buffer. The caller shows that the place is
+// there and that the buffer has room for the most bytes of a session.
+pub(crate) fn statement(text: &[u8], at: usize, body: &mut [u8]) -> Said
+    requires { ⌜ (at ≤ length (now text)) × (length (now body) ≡ most) ⌝ }
+    ensures { λ r. ⌜ Says (statementAt (now (text .entry)) at) (now (body .exit)) r ⌝ }
+{
+    let w = word_at(text, at);
+    statement_by(text, w, body)
+}
