@@ -1,5 +1,10 @@
-// The input of a program: the file that its first argument names, or standard input.
+// The input of a program: its options, and the file that its argument names, or standard input.
+mod arguments;
+
+pub use arguments::goes_on;
+pub use arguments::option;
 ghost use Rattle.input.specs.Input.{Counted};
+use arguments::Kind;
 
 // The whole input, of so many bytes, or what a full buffer holds of it; or it could not be read.
 pub enum Input {
@@ -56,11 +61,12 @@ fn read_file(name: &[u8], buf: &mut [u8]) -> Input
 pub fn read(buf: &mut [u8]) -> Input
     ensures { λ r. ⌜ Counted r (now (buf .exit)) ⌝ }
 {
-    if os::arg_count() < 2 {
+    let place = arguments::first(1, Kind::Name, b"");
+    if os::arg_count() <= place {
         return read_named(libc::STDIN_FILENO, b"standard input", buf);
     }
     let mut name = io::buffer();
-    let n = os::arg(1, &mut name);
+    let n = os::arg(place, &mut name);
     if os::errno() != 0 {
         os::fail(b"the argument");
         return Input::Failed;

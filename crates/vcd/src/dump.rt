@@ -1,0 +1,152 @@
+// What a dump shows: nine lines and the direction and latch registers of three ports, and when they change.
+use crate::text::put_level;
+use crate::text::put_register;
+use crate::text::put_time;
+
+// How many lines there are; the variables after them are registers.
+pub(crate) const LINES: usize = 9;
+
+const VARIABLES: usize = 15;
+
+const IDENTIFIERS: [u8; VARIABLES] = [
+    b'A',
+    b'B',
+    b'C',
+    b'D',
+    b'E',
+    b'F',
+    b'G',
+    b'H',
+    b'I',
+    b'J',
+    b'K',
+    b'L',
+    b'M',
+    b'N',
+    b'O',
+];
+
+// The variables from which on nothing is shown, the level of a line that nobody drives, which lines are driven, the variables' values
+// now and as they were last written, the time in microseconds and whether it is written, the place in the session of the next
+// sample, and how much text is collected.
+pub(crate) struct Dump {
+    pub(crate) shown: usize,
+    pub(crate) free: u8,
+    pub(crate) driven: [bool; LINES],
+    pub(crate) now: [u8; VARIABLES],
+    pub(crate) written: [u8; VARIABLES],
+    pub(crate) time: u64,
+    pub(crate) stamped: bool,
+    pub(crate) sample: usize,
+    pub(crate) used: usize,
+}
+
+// The start of a dump: the time 0 is written, and no variable, which `x` says. With pull-ups a free line is high, and the registers
+// are left out.
+pub(crate) fn start(pull_up: bool) -> Dump {
+    let free = if pull_up { b'1' } else { b'z' };
+    let shown = if pull_up { LINES } else { VARIABLES };
+    Dump {
+        shown,
+        free,
+        driven: [false; LINES],
+        now: [
+            free,
+            free,
+            free,
+            free,
+            free,
+            free,
+            free,
+            free,
+            free,
+            0,
+            0,
+            0,
+            0,
+            0,
+            0,
+        ],
+        written: [b'x'; VARIABLES],
+        time: 0,
+        stamped: true,
+        sample: 0,
+        used: 0,
+    }
+}
+
+impl Dump {
+    pub(crate) fn is_driven(self, line: usize) -> bool {
+        if line < LINES {
+            return self.driven[line];
+        }
+        false
+    }
+
+    pub(crate) fn drive(mut self, line: usize, driven: bool) -> Dump {
+        if line < LINES {
+            self.driven[line] = driven;
+        }
+        self
+    }
+
+    pub(crate) fn set(mut self, variable: usize, value: u8) -> Dump {
+        if variable < VARIABLES {
+            self.now[variable] = value;
+        }
+        self
+    }
+
+    // Writes the time, unless it is written.
+    pub(crate) fn stamp(mut self, text: &mut [u8]) -> Dump {
+        if !self.stamped {
+            self.used = put_time(text, self.used, self.time);
+            self.stamped = true;
+        }
+        self
+    }
+
+    // Writes a variable's value if it changed, and the time before it.
+    fn change(self, variable: usize, text: &mut [u8]) -> Dump {
+        if VARIABLES <= variable {
+            return self;
+        }
+        let value = self.now[variable];
+        if value == self.written[variable] {
+            return self;
+        }
+        let mut d = self.stamp(text);
+        let name = IDENTIFIERS[variable];
+        d.written[variable] = value;
+        if variable < LINES {
+            d.used = put_level(text, d.used, value, name);
+            return d;
+        }
+        d.used = put_register(text, d.used, value, name);
+        d
+    }
+
+    // Writes what changed at this time.
+    pub(crate) fn changes(self, text: &mut [u8]) -> Dump {
+        let mut d = self;
+        let shown = d.shown;
+        let mut k: usize = 0;
+        while k < shown {
+            let next = d.change(k, text);
+            d = next;
+            k += 1;
+        }
+        d
+    }
+
+    // Time goes on, and what changed before is written. A session's time stays far below 64 bits.
+    pub(crate) fn go(self, microseconds: u64, text: &mut [u8]) -> Dump {
+        if microseconds == 0 {
+            return self;
+        }
+        let mut d = self.changes(text);
+        d.time = std::num::wrapping_add_u64(d.time, microseconds);
+        d.stamped = false;
+        d
+    }
+}

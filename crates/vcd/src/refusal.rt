@@ -1,0 +1,62 @@
+// A refusal in words, as the table of 01 has it.
+ghost use Prim.Native.Nat.{_<_};
+use libc::STDERR_FILENO;
+use libc::STDOUT_FILENO;
+
+fn write_reason(fd: i32, number: u8) {
+    match number {
+        1 => {
+            io::write_all(fd, b"the state breaks its ranges");
+        }
+        2 => {
+            io::write_all(fd, b"fewer samples are left than the event uses");
+        }
+        5 => {
+            io::write_all(fd, b"1 to 3 bytes left where a record header should be");
+        }
+        6 => {
+            io::write_all(fd, b"record length over 4,096");
+        }
+        7 => {
+            io::write_all(fd, b"record body passes the end");
+        }
+        8 => {
+            io::write_all(fd, b"unknown kind");
+        }
+        9 => {
+            io::write_all(fd, b"a fault body is not one byte of 81, 82, 83 hex");
+        }
+        _ => {
+            io::write_all(fd, b"session over 32,768 bytes");
+        }
+    }
+}
+
+fn write_refusal(fd: i32, number: u8, place: u64) {
+    io::write_all(fd, b"refusal ");
+    io::print_decimal(fd, number as u64);
+    io::write_all(fd, b" at byte ");
+    io::print_decimal(fd, place);
+    io::write_all(fd, b": ");
+    write_reason(fd, number);
+}
+
+fn word(low: u8, high: u8) -> u64
+    ensures { λ r. ⌜ r < 65536 ⌝ }
+{
+    low as u64 + 256 * (high as u64)
+}
+
+// Says how a session ended, by the body of the record that says so, as a comment of the dump and on standard error.
+pub(crate) fn say_refusal(body: &[u8]) {
+    let number = wire::byte_at(body, 0);
+    let low = word(wire::byte_at(body, 2), wire::byte_at(body, 3));
+    let high = word(wire::byte_at(body, 4), wire::byte_at(body, 5));
+    let place = low + 65536 * high;
+    io::write_all(STDOUT_FILENO, b"$comment\n");
+    write_refusal(STDOUT_FILENO, number, place);
+    io::write_all(STDOUT_FILENO, b"\n$end\n");
+    io::write_all(STDERR_FILENO, b"vcd: ");
+    write_refusal(STDERR_FILENO, number, place);
+    io::write_all(STDERR_FILENO, b"\n");
+}
