@@ -47,11 +47,11 @@ def plain(line):
         return None
     return "Presence: true" if text in PRESENT else text
 
-def compare(name, text, folder, programs):
+def compare(name, text, folder, given):
     script, session, waveform = (folder / f"{name}.{kind}" for kind in ("script", "session", "vcd"))
     script.write_text(text)
-    session.write_bytes(run(programs.assemble, script))
-    waveform.write_bytes(run(programs.vcd, "--pull-up", session))
+    session.write_bytes(run(given.assemble, script))
+    waveform.write_bytes(run(given.vcd, "--pull-up", session))
     decoder, rows, want = wanted(session.read_bytes())
     said = decoded(waveform, decoder, rows)
     same = said == want and len(want) > 0
@@ -60,16 +60,21 @@ def compare(name, text, folder, programs):
         print(f"  wanted:  {', '.join(want)}\n  decoded: {', '.join(said)}")
     return same
 
-def main():
-    given = argparse.ArgumentParser(description=__doc__.splitlines()[0])
+def programs(about, *more):
+    """The programs named on the command line, or those in target/bin; more are further options that take a word."""
+    given = argparse.ArgumentParser(description=about.splitlines()[0])
     given.add_argument("--assemble", default=str(ROOT / "target/bin/assemble"), help="the program that makes a session of a script")
     given.add_argument("--vcd", default=str(ROOT / "target/bin/vcd"), help="the program that makes a waveform of a session")
-    given.add_argument("--keep", help="a folder for the sessions and the waveforms")
-    programs = given.parse_args()
+    for option, meaning in more:
+        given.add_argument(option, help=meaning)
+    return given.parse_args()
+
+def main():
+    given = programs(__doc__, ("--keep", "a folder for the sessions and the waveforms"))
     with tempfile.TemporaryDirectory() as passing:
-        folder = pathlib.Path(programs.keep or passing)
+        folder = pathlib.Path(given.keep or passing)
         folder.mkdir(parents=True, exist_ok=True)
-        results = [compare(name, text, folder, programs) for name, text in scripts()]
+        results = [compare(name, text, folder, given) for name, text in scripts()]
     print(f"{len(results)} sessions, {results.count(False)} differ")
     return 0 if all(results) else 1
 
