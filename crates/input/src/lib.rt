@@ -52,18 +52,29 @@ fn read_file(name: &[u8], buf: &mut [u8]) -> Input
     r
 }
 
-// Reads the program's input to the front of a buffer. If it can't be opened or read, a line on standard error says why.
-pub fn read(buf: &mut [u8]) -> Input
+// Reads the file that an argument names to the front of a buffer, for 0 standard input. If it can't be opened or read, a line on
+// standard error says why.
+pub fn read_argument(i: usize, buf: &mut [u8]) -> Input
     ensures { λ r. ⌜ Counted r (now (buf .exit)) ⌝ }
 {
-    if os::arg_count() < 2 {
+    if i == 0 {
         return read_named(libc::STDIN_FILENO, b"standard input", buf);
     }
     let mut name = io::buffer();
-    let n = os::arg(1, &mut name);
+    let n = os::arg(i, &mut name);
     if os::errno() != 0 {
         os::fail(b"the argument");
         return Input::Failed;
     }
     read_file(&name[..n], buf)
+}
+
+// Reads the program's input, the file that its first argument names or standard input, to the front of a buffer.
+pub fn read(buf: &mut [u8]) -> Input
+    ensures { λ r. ⌜ Counted r (now (buf .exit)) ⌝ }
+{
+    if os::arg_count() < 2 {
+        return read_argument(0, buf);
+    }
+    read_argument(1, buf)
 }
