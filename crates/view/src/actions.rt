@@ -1,24 +1,26 @@
 // The actions of an event in words.
+use crate::numbers::word;
 use crate::text::say;
 use crate::text::say_hex;
 use crate::text::say_number;
+use std::num::wrapping_add_usize;
 
 // How many actions stand in a line: a 1-Wire slot, or all ports anew.
 const A_LINE: usize = 6;
 
 fn say_line(line: u8) {
     match line {
-        0 => say(b"SCL"),
-        1 => say(b"SDA"),
-        2 => say(b"CS"),
-        3 => say(b"SCK"),
-        4 => say(b"MOSI"),
-        5 => say(b"MISO"),
-        6 => say(b"SS"),
-        7 => say(b"DQ"),
-        8 => say(b"PB7"),
-        16 => say(b"port B"),
-        17 => say(b"port C"),
+        wire::LINE_SCL => say(b"SCL"),
+        wire::LINE_SDA => say(b"SDA"),
+        wire::LINE_CS => say(b"CS"),
+        wire::LINE_SCK => say(b"SCK"),
+        wire::LINE_MOSI => say(b"MOSI"),
+        wire::LINE_MISO => say(b"MISO"),
+        wire::LINE_SS => say(b"SS"),
+        wire::LINE_DQ => say(b"DQ"),
+        wire::LINE_PB7 => say(b"PB7"),
+        wire::LINE_PORT_B => say(b"port B"),
+        wire::LINE_PORT_C => say(b"port C"),
         _ => say(b"port D"),
     }
 }
@@ -30,15 +32,15 @@ fn say_driven(line: u8, how: &[u8]) {
 }
 
 // A port's register and what it then holds.
-fn say_stored(line: u8, which: &[u8], value: u16) {
+fn say_stored(line: u8, which: &[u8], value: usize) {
     say_line(line);
     say(which);
     say_hex((value % 256) as u8);
 }
 
-fn say_waited(value: u16, unit: &[u8]) {
+fn say_waited(value: usize, unit: &[u8]) {
     say(b"wait ");
-    say_number(value as usize);
+    say_number(value);
     say(unit);
 }
 
@@ -62,17 +64,17 @@ fn say_pins(line: u8, sample: u8) {
 }
 
 // An action by its verb; a sampling one comes with its sample.
-fn say_action(verb: u8, line: u8, value: u16, sample: u8) {
+fn say_action(verb: u8, line: u8, value: usize, sample: u8) {
     match verb {
-        0 => say_driven(line, b" released"),
-        1 => say_driven(line, b" low"),
-        2 => say_driven(line, b" high"),
-        3 => say_level(line, sample),
-        4 => say_waited(value, b" \xc2\xb5s"),
-        5 => say_stored(line, b" direction ", value),
-        6 => say_stored(line, b" latch ", value),
-        7 => say_pins(line, sample),
-        8 => say_waited(value, b" ms"),
+        wire::VERB_RELEASE => say_driven(line, b" released"),
+        wire::VERB_DRIVE_LOW => say_driven(line, b" low"),
+        wire::VERB_DRIVE_HIGH => say_driven(line, b" high"),
+        wire::VERB_SAMPLE_LINE => say_level(line, sample),
+        wire::VERB_WAIT_MICROSECONDS => say_waited(value, b" \xc2\xb5s"),
+        wire::VERB_DIRECTION => say_stored(line, b" direction ", value),
+        wire::VERB_LATCH => say_stored(line, b" latch ", value),
+        wire::VERB_SAMPLE_PORT => say_pins(line, sample),
+        wire::VERB_WAIT_MILLISECONDS => say_waited(value, b" ms"),
         _ => say_waited(value, b" IOG cycles"),
     }
 }
@@ -88,14 +90,10 @@ fn say_gap(place: usize) {
 
 // Where the next sample stands after an action.
 fn sample_after(verb: u8, at: usize) -> usize {
-    if (verb == 3) | (verb == 7) {
-        return std::num::wrapping_add_usize(at, 1);
+    if (verb == wire::VERB_SAMPLE_LINE) | (verb == wire::VERB_SAMPLE_PORT) {
+        return wrapping_add_usize(at, 1);
     }
     at
-}
-
-fn value_of(low: u8, high: u8) -> u16 {
-    low as u16 + 256 * (high as u16)
 }
 
 // The actions of an event, whose samples stand in the session from a place on.
@@ -106,7 +104,7 @@ pub(crate) fn say_actions(actions: &[u8], session: &[u8], sampled: usize) {
     while i < n {
         let k = i * wire::ACTION_BYTES;
         let verb = actions[k];
-        let value = value_of(actions[k + 2], actions[k + 3]);
+        let value = word(actions, k + 2);
         say_gap(i);
         say_action(verb, actions[k + 1], value, wire::byte_at(session, at));
         at = sample_after(verb, at);

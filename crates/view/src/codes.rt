@@ -20,7 +20,7 @@ fn say_meaning(code: u8) {
         0x81 => say(b" (frame)"),
         0x82 => say(b" (overrun)"),
         0x83 => say(b" (parity)"),
-        _ => say(b""),
+        _ => {}
     }
 }
 

@@ -3,6 +3,7 @@ mod actions;
 mod codes;
 mod commands;
 mod events;
+mod numbers;
 mod options;
 mod output;
 mod refusals;

@@ -1,5 +1,5 @@
 // A refusal by its number, in words, with its place.
-ghost use Prim.Native.Nat.{_<_};
+use crate::numbers::word;
 use crate::text::no_color;
 use crate::text::red;
 use crate::text::say;
@@ -40,20 +40,6 @@ pub(crate) fn say_refusal(color: bool, r: Refused) {
     say_reason(r.number);
     no_color(color);
     say(b"\n");
-}
-
-fn joined(low: u8, high: u8) -> usize
-    ensures { λ n. ⌜ n < 65536 ⌝ }
-{
-    low as usize + 256 * (high as usize)
-}
-
-// 16 bits at a place, low byte first.
-fn word(bytes: &[u8], at: usize) -> usize
-    ensures { λ n. ⌜ n < 65536 ⌝ }
-{
-    let next = std::num::wrapping_add_usize(at, 1);
-    joined(wire::byte_at(bytes, at), wire::byte_at(bytes, next))
 }
 
 // The number (16 bits) and the place (32 bits) of the refusal that an output starts with.

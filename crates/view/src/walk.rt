@@ -24,6 +24,7 @@ use registers::Event;
 use registers::Wait;
 use session::replay::Cursor;
 use session::replay::MOST_OUTPUT;
+use std::num::wrapping_add_usize;
 
 // How much has been shown.
 struct Shown {
@@ -38,10 +39,6 @@ struct Walked {
     shown: Shown,
 }
 
-fn sum(n: usize, m: usize) -> usize {
-    std::num::wrapping_add_usize(n, m)
-}
-
 // The bytes of a part if it is of a kind.
 fn bytes_of(p: Part, kind: usize) -> usize {
     if p.kind == kind { p.size } else { 0 }
@@ -50,11 +47,11 @@ fn bytes_of(p: Part, kind: usize) -> usize {
 // One event more, with its parts.
 fn count(t: Shown, first: Part, second: Part) -> Shown {
     let actions = bytes_of(first, ACTIONS) / wire::ACTION_BYTES;
-    let replies = sum(bytes_of(first, REPLIES), bytes_of(second, REPLIES));
+    let replies = wrapping_add_usize(bytes_of(first, REPLIES), bytes_of(second, REPLIES));
     Shown {
-        events: sum(t.events, 1),
-        replies: sum(t.replies, replies),
-        actions: sum(t.actions, actions),
+        events: wrapping_add_usize(t.events, 1),
+        replies: wrapping_add_usize(t.replies, replies),
+        actions: wrapping_add_usize(t.actions, actions),
     }
 }
 
