@@ -1,16 +1,18 @@
 #!/usr/bin/env python3
 """What `view` must write, from the model alone.
 
-python3 tests/view.py target/bin/view compares the two on the sessions of `vectors` and on random ones; with no name it makes the
-stored session of `view` and its text anew. Text in quotes in the comments is from 01.
+python3 tests/view.py target/bin/view tries the arguments and compares the two on the sessions of `vectors` and on random ones; with
+no name it makes the stored session of `view` and its text anew. Text in quotes in the comments is from 01.
 """
 import pathlib
+import re
 import subprocess
 import sys
 
 import interfaces
 from interfaces import TABLES
-from model import COMMON, DIRECTION, I2C, LATCH, LINES, ONE_WIRE, PORT_LINE, SAMPLE, SAMPLE_PORT, SPI, WAIT_IOG, WAIT_MS, WAIT_US, Turn
+from model import (COMMON, DIRECTION, I2C, LATCH, LINES, ONE_WIRE, PORT_LINE, SAMPLE, SAMPLE_PORT, SPI, WAIT_IOG, WAIT_MS, WAIT_US,
+                   Turn)
 from replay import Ended, LONGEST_SESSION, Run, record
 from sessions import PARTS, random_session, session
 
@@ -34,7 +36,7 @@ NAMES = {
         ClearSTRPU_1W Get580usPulse_1W Get110msPulse_1W"""),
 }
 NAME = {(table, byte): name for table, (codes, text) in NAMES.items() for byte, name in zip(codes, text.split(), strict=True)}
-assert {key for key in NAME} == {(table, byte) for table in TABLES if table for byte in TABLES[table]}
+assert set(NAME) == {(table, byte) for table in TABLES if table for byte in TABLES[table]}
 
 # "00 none, 20 no I2C acknowledge, 40 no SPI configuration, 60 no presence, 80 unknown command, 81 frame, 82 overrun, 83 parity"
 CODES = {0x00: "none", 0x20: "no acknowledge", 0x40: "no SPI configuration", 0x60: "no presence", 0x80: "unknown command",
@@ -89,7 +91,8 @@ class Viewed(Run):
             return NAME.get(("extended", byte), "unknown"), ("extended", byte)
         if s.due:
             wait = self.waits()
-            return ("packet byte" if "packet" in wait else "timing byte" if "timing" in wait else wait[len("waits for the "):]), None
+            what = [kind for kind in ("packet byte", "timing byte") if kind in wait] or [wait[len("waits for the "):]]
+            return what[0], None
         table = "common" if byte in COMMON else {1: I2C, 2: SPI, 3: ONE_WIRE}.get(byte >> 5)
         name = NAME.get((table, byte), "unknown")
         return name + " without its interface" * (name != "unknown" and table not in ("common", s.flags & 7)), (table, byte)
@@ -131,19 +134,19 @@ class Viewed(Run):
             self.counts[k] += more
 
 def view(session):
-    run, place = Viewed(), 0
+    shown, place = Viewed(), 0
     number, at = (10, 0) if len(session) > LONGEST_SESSION else (0, 0)
     while not number and place < len(session):
         try:
-            place = run.take(session, place)
+            place = shown.take(session, place)
         except Ended as ended:
             number, at = ended.args
     if number:
-        run.say("    " * (number == 2) + f"refusal {number} at {at}: {REASONS[number]}")
-    events, replies, actions = run.counts
-    run.say(f"{plural(events, 'event')}, {plural(replies, 'reply byte')}, {plural(actions, 'action')}; "
-            + (f"refusal {number} at {at}" if number else run.waits()))
-    return "\n".join(run.text) + "\n"
+        shown.say("    " * (number == 2) + f"refusal {number} at {at}: {REASONS[number]}")
+    events, replies, actions = shown.counts
+    shown.say(f"{plural(events, 'event')}, {plural(replies, 'reply byte')}, {plural(actions, 'action')}; "
+              + (f"refusal {number} at {at}" if number else shown.waits()))
+    return "\n".join(shown.text) + "\n"
 
 # ---- the stored session: every form of a line, and a record of an unknown kind at the end ----
 
@@ -160,16 +163,31 @@ def make():
     folder = pathlib.Path(__file__).parent.parent / "crates" / "view"
     (folder / "data").mkdir(exist_ok=True)
     (folder / "data" / "forms.session").write_bytes(stored())
-    (folder / "stdout").write_text(view(stored()))
+    (folder / "stdout").write_text(view(stored()), encoding="utf-8")
 
 # ---- the comparison ----
 
+def run(program, *arguments, given=b""):
+    done = subprocess.run([program, *arguments], input=given, stdout=subprocess.PIPE, stderr=subprocess.PIPE, check=True)
+    return done.stdout.decode(), done.stderr.decode()
+
+def check_arguments(program):
+    usage = "usage: view [--color] [--help] [FILE]\n"
+    text, error = run(program, "--help")
+    assert text.startswith(usage) and not error
+    for words, wrong in (("--colour", "--colour"), ("-", "-"), ("a b", "b"), ("--color -x -y", "-x"), ("a --help -z", "-z")):
+        assert run(program, *words.split()) == ("", f"view: unknown argument {wrong}\n" + usage), words
+    text, error = run(program, "no such file")
+    assert not text and error.startswith("no such file: ")
+    plain, (colored, _) = view(stored()), run(program, "--color", given=stored())
+    assert "\x1b" in colored and re.sub("\x1b\\[[0-9]*m", "", colored) == plain
+
 def compare(program):
+    check_arguments(program)
     sessions = [given for part in PARTS for given in part()] + [random_session(seed) for seed in range(20000, 20500)]
     differ = 0
     for given in sessions:
-        got = subprocess.run([program], input=given, stdout=subprocess.PIPE, check=True).stdout.decode()
-        if got != view(given):
+        if run(program, given=given) != (view(given), ""):
             differ += 1
             print("differs:", given.hex() if len(given) < 600 else f"{len(given)} bytes")
     print(f"{len(sessions)} sessions, {differ} differ")
