@@ -30,8 +30,18 @@ fn write_transcript(session: &[u8]) {
     }
 }
 
+fn to_go_on() -> bool {
+    input::goes_on(
+        b"usage: replay [FILE]\nWrites the transcript of the session in FILE, or in standard input, to standard output.\n",
+        b"",
+    )
+}
+
 // One byte more than a session may have is enough to refuse it for its size.
 fn main() {
+    if !to_go_on() {
+        return;
+    }
     let mut session = [0u8; 32769];
     let Input::Whole(n) = input::read(&mut session) else {
         return;
