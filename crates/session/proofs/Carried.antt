@@ -2,17 +2,17 @@
 use Prim.Native.Nat.{ℕ, _+_, _*_, _≤_}
 use mathlib.Core.Path.{_≡_, refl, sym, ap, _∙_}
 use mathlib.Core.Bool.{Bool, true, false, cond, true≢false, false≢true}
-use mathlib.Core.List.{List, [], _∷_, _++_}
+use mathlib.Core.List.{List, [], _∷_}
 use native.Mathlib.Omega.{arith}
 use native.Mathlib.Nat.{zero-add}
-use borrow.Author.Tests.{le-leb, leb-true, eqb-true}
+use borrow.Author.Tests.{leb-true, eqb-true}
 use lib.Dec.{eqb}
 use lib.ListN.{length, take, length-append}
 use lib.Seq.{length-take-le}
 use Rattle.wire.specs.Action.{bytesOf}
 use Rattle.wire.specs.Buffer.{overwrite, fitsIn, Written}
 use Rattle.wire.proofs.Actions.{bytes-length}
-use Rattle.wire.proofs.Buffers.{overwrite-length, overwrite-none, overwrite-front, overwrite-through, written-none, written-append}
+use Rattle.wire.proofs.Buffers.{overwrite-length, overwrite-none, overwrite-front, overwrite-through, written-append}
 use Rattle.packet.specs.Register.{zeros}
 use Rattle.registers.specs.Ranges.{InRange}
 use Rattle.registers.specs.declared.Event.{Event}
@@ -24,12 +24,11 @@ use Rattle.bridge.specs.Calls.{Lent, lent, Given, given, refused, taken, answer
 use Rattle.bridge.specs.Demands.{isRefused}
 use Rattle.bridge.specs.declared.Refusal.{Refusal}
 use Rattle.bridge.specs.declared.Refusal.the-variants as why
-use Rattle.bridge.specs.declared.Outcome.{Outcome}
 use Rattle.bridge.specs.declared.Outcome.the-variants.{Taken, Refused}
 use Rattle.bridge.specs.declared.Stepped.{Stepped}
 use Rattle.records.specs.declared.Refusal.the-variants.{Samples}
 use Rattle.records.specs.Records.{headOf, recordOf}
-use Rattle.session.specs.Replay.{Cursor, Turn, unlessEmpty, outputOf, stopped, after, eventTurn}
+use Rattle.session.specs.Replay.{Cursor, unlessEmpty, stopped, after, eventTurn}
 use Rattle.session.specs.Runs.{Ran, mostOutput}
 use Rattle.session.specs.Turned.{Turned, Headed}
 use Rattle.session.proofs.Room.{enough-room}

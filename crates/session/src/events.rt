@@ -1,5 +1,4 @@
 // One event of a replay.
-ghost use mathlib.Core.Path.{_≡_};
 ghost use Prim.Native.Nat.{_+_, _≤_, _<_, _^_};
 ghost use lib.ListN.{length};
 ghost use Rattle.registers.specs.Ranges.{InRange};

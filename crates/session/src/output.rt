@@ -2,9 +2,8 @@
 ghost use mathlib.Core.Path.{_≡_};
 ghost use mathlib.Core.Bool.{cond};
 ghost use Prim.Native.Nat.{_+_, _*_, _≤_};
-ghost use lib.Dec.{eqb};
 ghost use lib.ListN.{length};
-ghost use Rattle.wire.specs.Buffer.{Written, overwrite};
+ghost use Rattle.wire.specs.Buffer.{Written};
 ghost use Rattle.session.specs.Replay.{unlessEmpty, lastOf, refusalOf};
 ghost use Rattle.session.specs.Turned.{Headed};
 ghost use Rattle.bridge.specs.Judging.{isIdle};
