@@ -178,15 +178,23 @@ pub fn place_of(step: u8, n: u8, high: bool) -> u8
     n - 1 - step
 }
 
-// The bit that is sent at a step counted from 0; 0 past the register's bits.
+// The bit that is sent at a step counted from 0. The caller shows that the register has so many bits.
+pub fn bit_within(r: Register, step: u8, high: bool) -> u8
+    requires { ⌜ step < width ⌝ }
+    ensures { λ b. ⌜ (b ≡ sentAt high r step) × (b < 2) ⌝ }
+{
+    let place = place_of(step, WIDTH, high);
+    bit_at(r, place)
+}
+
+// The same at any step; 0 past the register's bits.
 pub fn bit_to_send(r: Register, step: u8, high: bool) -> u8
     ensures { λ b. ⌜ (b ≡ sentAt high r step) × (b < 2) ⌝ }
 {
     if WIDTH <= step {
         return 0;
     }
-    let place = place_of(step, WIDTH, high);
-    bit_at(r, place)
+    bit_within(r, step, high)
 }
 
 // How many low bytes of the register hold n bits.

@@ -56,7 +56,7 @@ fn put_bits(
     let mut next = at;
     let mut i: u8 = 0;
     while i < n {
-        let bit = packet::bit_to_send(r, i, high);
+        let bit = packet::bit_within(r, i, high);
         next = put_bit(out, next, polarity, phase, bit);
         i += 1;
     }

@@ -31,8 +31,8 @@ put-bits-spec =
     let m = b .before .before in
     let s = m .before .before in
     let n : length (sent (s .args .n) (s .args .high) (s .args .r)) ≡ s .args .n = length-sent (s .args .n) (s .args .high) (s .args .r) (omega (arith, s .good .1 .1 .0 .1 .0 .1)) in
-    let e = sent-at (s .args .n) (s .args .high) (s .args .r) (m .loop .i) (search needs) ∙ sym (b .bit-to-send .ensures .0) in
-    (omega (arith, bit-bytes (s .args .polarity) (s .args .phase) (b .bit-to-send .result), owed-fits (spiBit (s .args .polarity) (s .args .phase)) _ (m .loop .inv .1) (omega arith) e (s .pre .1 .1)), (search needs, b .bit-to-send .ensures .1)))
+    let e = sent-at (s .args .n) (s .args .high) (s .args .r) (m .loop .i) (search needs) ∙ sym (b .bit-within .ensures .0) in
+    (omega (arith, bit-bytes (s .args .polarity) (s .args .phase) (b .bit-within .result), owed-fits (spiBit (s .args .polarity) (s .args .phase)) _ (m .loop .inv .1) (omega arith) e (s .pre .1 .1)), (search needs, b .bit-within .ensures .1)))
     (λ c. search needs)
     (λ c. search needs)
     (λ c.
@@ -41,7 +41,7 @@ put-bits-spec =
     let m = b .before .before in
     let s = m .before .before in
     let n : length (sent (s .args .n) (s .args .high) (s .args .r)) ≡ s .args .n = length-sent (s .args .n) (s .args .high) (s .args .r) (omega (arith, s .good .1 .1 .0 .1 .0 .1)) in
-    let e = sent-at (s .args .n) (s .args .high) (s .args .r) (m .loop .i) (search needs) ∙ sym (b .bit-to-send .ensures .0) in
+    let e = sent-at (s .args .n) (s .args .high) (s .args .r) (m .loop .i) (search needs) ∙ sym (b .bit-within .ensures .0) in
     (omega arith, owed-turn (spiBit (s .args .polarity) (s .args .phase)) _ (m .loop .inv .1) (omega arith) e (p .put-bit .ensures)))
     (λ c. c .before .loop .inv .1 .size)
     (λ c.
