@@ -1,16 +1,17 @@
 -- An event that is measured and then written, as a turn of the replay. Assumes nothing.
-use Prim.Native.Nat.{ℕ, _+_, _*_, _≤_}
+use Prim.Native.Nat.{ℕ, _+_, _-_, _*_, _≤_}
 use mathlib.Core.Path.{_≡_, refl, sym, ap, subst, _∙_}
 use mathlib.Core.Bool.{Bool, true, false, cond}
-use mathlib.Core.List.{List, [], _∷_}
+use mathlib.Core.List.{List, [], _∷_, _++_}
 use native.Mathlib.Omega.{arith}
+use native.Mathlib.Nat.{zero-add}
 use borrow.Author.Tests.{leb-true, eqb-true}
 use lib.Dec.{eqb}
-use lib.ListN.{length, length-append}
+use lib.ListN.{length, take, drop, length-append}
 use Rattle.wire.specs.Action.{bytesOf}
 use Rattle.wire.specs.Buffer.{overwrite, fitsIn, Written}
 use Rattle.wire.proofs.Actions.{bytes-length}
-use Rattle.wire.proofs.Buffers.{overwrite-length, overwrite-none, overwrite-front, written-append}
+use Rattle.wire.proofs.Buffers.{overwrite-length, overwrite-none, overwrite-front, written-append, written-after}
 use Rattle.registers.specs.Ranges.{InRange}
 use Rattle.registers.specs.declared.Event.{Event}
 use Rattle.signals.specs.Waveforms.{waveOf}
@@ -41,9 +42,13 @@ headed o kind xs {x} {n} room h = go (eqb (length xs) 0) refl (h .bytes) (h .aft
         record { bytes = b ∙ ap (overwrite o 4) (nothing xs (eqb-true (length xs) 0 e)) ∙ overwrite-none o 4 ∙ sym (overwrite-none o 0); after = a }
     go false e b a = record { bytes = b ∙ overwrite-front o 0 (headOf kind (length xs)) xs room; after = omega (arith, a, length-append (headOf kind (length xs)) xs) }
 
--- .. where so many bytes were written and counted
-pub headed-as : (o : List ℕ) (kind : ℕ) (xs : List ℕ) {m x : List ℕ} {k n : ℕ} → 4 + length xs ≤ length o → m ≡ overwrite o 4 xs → k ≡ length xs → Headed m kind k x n → Written o 0 (unlessEmpty kind xs) x n
-headed-as o kind xs {m} {x} {k} {n} room q s h = headed o kind xs room (subst (λ (v : List ℕ). Headed v kind (length xs) x n) q (subst (λ (v : ℕ). Headed m kind v x n) s h))
+-- .. where a writer put them there and counted them
+pub headed-as : (o : List ℕ) (kind : ℕ) {xs ys x : List ℕ} {k n : ℕ} → 4 + length xs ≤ length o → Written (take (length o - 4) (drop 4 o)) 0 xs ys k
+    → Headed (take 4 o ++ (ys ++ drop (length o - 4) (drop 4 o))) kind k x n → Written o 0 (unlessEmpty kind xs) x n
+headed-as o kind {xs} {ys} {x} {k} {n} room w h =
+    headed o kind xs room
+    (subst (λ (m : List ℕ). Headed m kind (length xs) x n) (written-after o 4 w refl)
+    (subst (λ (j : ℕ). Headed (take 4 o ++ (ys ++ drop (length o - 4) (drop 4 o))) kind j x n) (w .after ∙ zero-add (length xs)) h))
 
 some-length : (kind : ℕ) (xs : List ℕ) → length (unlessEmpty kind xs) ≤ 4 + length xs
 some-length kind xs = go (eqb (length xs) 0)
