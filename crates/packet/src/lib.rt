@@ -206,7 +206,7 @@ pub fn byte_to_send(r: Register, step: u8, high: bool) -> u8
     r[i]
 }
 
-// The bit that is sent at a step of a byte's eight.
+// The bit that is sent at a step of a byte. The caller shows that the step is one of its eight.
 pub fn bit_of_byte(b: u8, step: u8, high: bool) -> u8
     requires { ⌜ step < 8 ⌝ }
     ensures { λ x. ⌜ (x ≡ sentAt high (b ∷ []) step) × (x < 2) ⌝ }
