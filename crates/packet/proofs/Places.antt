@@ -6,7 +6,7 @@ use Prim.Native.Nat.{ℕ, zero, suc, _+_, _-_, _*_, _/_, _%_, _^_, _≤_, _<_}
 use native.Mathlib.Nat.{not-suc-le-zero}
 use native.Mathlib.Decide.{decLt}
 use native.Mathlib.Omega.{arith}
-use lib.ListN.{length, getD, length-reverse, List·getD-append, List·getD-eq-default}
+use lib.ListN.{length, getD, length-reverse, List·getD-append}
 use lib.Seq.{getD-at, getD-append-add, getD-take, length-take-le}
 use Rattle.packet.specs.Register.{byteBits, bits}
 use Rattle.packet.specs.Packet.{order, sent, sentAt}
@@ -55,10 +55,6 @@ pub order-at : (high : Bool) (w : ℕ) (bs : List ℕ) (i : ℕ) → length bs �
 unfolding order
 order-at true w bs i e h = refl
 order-at false w bs i e h = rw (← e) (sym (getD-reverse bs i (omega arith)))
-
--- past the register's bits there is none
-pub order-past : (high : Bool) (r : List ℕ) (i : ℕ) → 8 * length r ≤ i → 0 ≡ getD (order high (bits r)) i 0
-order-past high r i h = sym (List·getD-eq-default (order high (bits r)) 0 {n = i} (omega (arith, length-order high (bits r), length-bits r)))
 
 -- THE BITS SENT
 

@@ -187,16 +187,6 @@ pub fn bit_within(r: Register, step: u8, high: bool) -> u8
     bit_at(r, place)
 }
 
-// The same at any step; 0 past the register's bits.
-pub fn bit_to_send(r: Register, step: u8, high: bool) -> u8
-    ensures { λ b. ⌜ (b ≡ sentAt high r step) × (b < 2) ⌝ }
-{
-    if WIDTH <= step {
-        return 0;
-    }
-    bit_within(r, step, high)
-}
-
 // The byte whose bits are sent in the eight steps from a multiple of eight on. The caller shows that the register has so many bits.
 pub fn byte_to_send(r: Register, step: u8, high: bool) -> u8
     requires { ⌜ step < width ⌝ }
