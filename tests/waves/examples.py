@@ -28,7 +28,7 @@ def make(name, folder, given):
     strips, rows = EXAMPLES[name]
     session, shown, decoded = ROOT / f"examples/{name}.session", folder / "shown.vcd", folder / "decoded.vcd"
     session.write_bytes(run(given.assemble, ROOT / f"examples/{name}.script"))
-    (ROOT / f"examples/{name}.view").write_bytes(run(ROOT / "target/bin/view", session))
+    (ROOT / f"examples/{name}.view").write_bytes(run(str(ROOT / "target/bin/view"), session))
     shown.write_bytes(run(given.vcd, session))
     decoded.write_bytes(run(given.vcd, "--pull-up", session))
     words = [f"--strips={strips}", *(notes(folder, decoded, *row) for row in rows), shown]
