@@ -1,10 +1,5 @@
 // Writes a session, that of standard input or of the file that the argument names, as a Value Change Dump (IEEE 1364) of the lines
 // and the ports' registers.
-ghost use mathlib.Core.Path.{_≡_};
-ghost use mathlib.Core.Bool.{false};
-ghost use Prim.Native.Nat.{_<_};
-ghost use Rattle.session.specs.Runs.{left};
-
 mod actions;
 mod dump;
 mod header;
@@ -16,7 +11,6 @@ use dump::Dump;
 use input::Input;
 use records::reading::Record;
 use records::reading::record_at;
-use session::replay::Cursor;
 
 // The kinds of a replay's records that the dump shows.
 const ACTIONS: usize = 0x0102;
@@ -24,12 +18,6 @@ const ACTIONS: usize = 0x0102;
 const LAST: usize = 0x0104;
 
 const REFUSAL: usize = 0x01FF;
-
-// Where the replay stands, and the dump so far.
-struct Shown {
-    cursor: Cursor,
-    dump: Dump,
-}
 
 fn print_usage() -> bool {
     input::goes_on(
@@ -70,38 +58,33 @@ fn show_step(d: Dump, records: &[u8], session: &[u8], text: &mut [u8]) -> Dump {
     show_record(d, kind, &records[start..end], session, text)
 }
 
-// One step of the replay, and its text goes out; text that can't be written ends the dump.
-fn step(cursor: Cursor, dump: Dump, session: &[u8], text: &mut [u8]) -> Shown
-    ensures { λ r. ⌜ (cursor .done ≡ false → left (now (session .entry)) (r .cursor) < left (now (session .entry)) cursor) ⌝ }
-{
-    let mut records = io::buffer();
-    let r = session::replay::advance(cursor, session, &mut records);
-    let n = r.written;
-    let mut next = r.cursor;
-    let mut d = dump;
-    d.sample = cursor.sample;
-    let mut shown = show_step(d, &records[..n], session, text);
-    if !text::flush(text, shown.used) {
+// What is collected goes out; text that can't be written ends the dump.
+fn send(mut d: Dump, text: &[u8]) -> Dump {
+    if !text::flush(text, d.used) {
         os::fail(b"standard output");
-        next.done = true;
+        d.broken = true;
     }
-    shown.used = 0;
-    Shown {
-        cursor: next,
-        dump: shown,
-    }
+    d.used = 0;
+    d
 }
 
+// Each step of the replay by itself, since the dump goes by events.
 fn write_dump(session: &[u8], pull_up: bool) {
     let mut text = io::large_buffer();
+    let mut records = io::buffer();
     let mut d = header::begin(pull_up, &mut text);
     let mut cursor = session::replay::start();
     while !cursor.done {
-        let r = step(cursor, d, session, &mut text);
+        d.sample = cursor.sample;
+        let r = session::replay::advance(cursor, session, &mut records);
+        let n = r.written;
         let next = r.cursor;
         cursor = next;
-        let e = r.dump;
-        d = e;
+        let shown = send(show_step(d, &records[..n], session, &mut text), &text);
+        if shown.broken {
+            return;
+        }
+        d = shown;
     }
 }
 
