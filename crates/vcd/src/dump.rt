@@ -98,6 +98,12 @@ impl Dump {
         self
     }
 
+    // An event's samples are read from a place of the session on.
+    pub(crate) fn at_sample(mut self, place: usize) -> Dump {
+        self.sample = place;
+        self
+    }
+
     // Writes the time, unless it is written.
     pub(crate) fn stamp(mut self, text: &mut [u8]) -> Dump {
         if !self.stamped {

@@ -19,18 +19,26 @@ const LAST: usize = 0x0104;
 
 const REFUSAL: usize = 0x01FF;
 
-fn print_usage() -> bool {
+fn goes_on() -> bool {
     input::goes_on(
         b"usage: vcd [--pull-up] [FILE]\nWrites the session in FILE, or in standard input, as a Value Change Dump to standard output.\n--pull-up shows a released line high and leaves the ports out.\n",
         b"--pull-up",
     )
 }
 
+// What is collected goes out; text that can't be written ends the dump.
+fn send(mut d: Dump, text: &[u8]) -> Dump {
+    if !text::flush(text, d.used) {
+        os::fail(b"standard output");
+        d.broken = true;
+    }
+    d.used = 0;
+    d
+}
+
 // The session ends here with a refusal, which stands in the dump after all else.
 fn refuse(d: Dump, body: &[u8], text: &mut [u8]) -> Dump {
-    let mut e = d.stamp(text);
-    text::flush(text, e.used);
-    e.used = 0;
+    let e = send(d.stamp(text), text);
     refusal::say_refusal(body);
     e
 }
@@ -55,17 +63,10 @@ fn show_step(d: Dump, records: &[u8], session: &[u8], text: &mut [u8]) -> Dump {
     if records.len() < end {
         return d;
     }
-    show_record(d, kind, &records[start..end], session, text)
-}
-
-// What is collected goes out; text that can't be written ends the dump.
-fn send(mut d: Dump, text: &[u8]) -> Dump {
-    if !text::flush(text, d.used) {
-        os::fail(b"standard output");
-        d.broken = true;
-    }
-    d.used = 0;
-    d
+    send(
+        show_record(d, kind, &records[start..end], session, text),
+        text,
+    )
 }
 
 // Each step of the replay by itself, since the dump goes by events.
@@ -75,12 +76,12 @@ fn write_dump(session: &[u8], pull_up: bool) {
     let mut d = header::begin(pull_up, &mut text);
     let mut cursor = session::replay::start();
     while !cursor.done {
-        d.sample = cursor.sample;
+        let from = d.at_sample(cursor.sample);
         let r = session::replay::advance(cursor, session, &mut records);
         let n = r.written;
         let next = r.cursor;
         cursor = next;
-        let shown = send(show_step(d, &records[..n], session, &mut text), &text);
+        let shown = show_step(from, &records[..n], session, &mut text);
         if shown.broken {
             return;
         }
@@ -90,7 +91,7 @@ fn write_dump(session: &[u8], pull_up: bool) {
 
 // One byte more than a session may have is enough to refuse it for its size.
 fn main() {
-    if !print_usage() {
+    if !goes_on() {
         return;
     }
     let mut session = [0u8; 32769];
