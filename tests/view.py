@@ -44,7 +44,7 @@ CODES = {0x00: "none", 0x20: "no acknowledge", 0x40: "no SPI configuration", 0x6
 # "Refusal numbers", those that a session can end with
 REASONS = {2: "fewer samples are left than the event uses", 5: "1 to 3 bytes left where a record header should be",
            6: "record length over 4,096", 7: "record body passes the end", 8: "unknown kind",
-           9: "a fault body is not one byte of 81, 82, 83", 10: "session over 32,768 bytes"}
+           9: "a fault body is not one byte of 81, 82, 83 hex", 10: "session over 32,768 bytes"}
 UNITS = {WAIT_US: "µs", WAIT_MS: "ms", WAIT_IOG: "IOG cycles"}
 
 NOTED = []

@@ -5,7 +5,7 @@ mod commands;
 mod events;
 mod numbers;
 mod output;
-mod refusals;
+mod refused;
 mod text;
 mod walk;
 

@@ -12,20 +12,6 @@ pub(crate) struct Refused {
     pub place: usize,
 }
 
-// 01's table, without what no session comes to.
-fn say_reason(number: usize) {
-    match number {
-        2 => say(b": fewer samples are left than the event uses"),
-        5 => say(b": 1 to 3 bytes left where a record header should be"),
-        6 => say(b": record length over 4,096"),
-        7 => say(b": record body passes the end"),
-        8 => say(b": unknown kind"),
-        9 => say(b": a fault body is not one byte of 81, 82, 83"),
-        10 => say(b": session over 32,768 bytes"),
-        _ => say(b": the state breaks its ranges"),
-    }
-}
-
 // The number with its place.
 pub(crate) fn say_number_and_place(r: Refused) {
     say(b"refusal ");
@@ -37,7 +23,8 @@ pub(crate) fn say_number_and_place(r: Refused) {
 pub(crate) fn say_refusal(color: bool, r: Refused) {
     red(color);
     say_number_and_place(r);
-    say_reason(r.number);
+    say(b": ");
+    refusals::write_reason(libc::STDOUT_FILENO, r.number);
     no_color(color);
     say(b"\n");
 }
