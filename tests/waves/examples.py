@@ -1,5 +1,5 @@
 #!/usr/bin/env python3
-"""Makes the session file and the waveform picture of each sample in examples/, with notes that sigrok decodes.
+"""Makes the session file, the view and the waveform picture of each sample in examples/, with notes that sigrok decodes.
 
     python3 tests/waves/examples.py [--assemble COMMAND] [--vcd COMMAND]
 """
@@ -28,6 +28,7 @@ def make(name, folder, given):
     strips, rows = EXAMPLES[name]
     session, shown, decoded = ROOT / f"examples/{name}.session", folder / "shown.vcd", folder / "decoded.vcd"
     session.write_bytes(run(given.assemble, ROOT / f"examples/{name}.script"))
+    (ROOT / f"examples/{name}.view").write_bytes(run(str(ROOT / "target/bin/view"), session))
     shown.write_bytes(run(given.vcd, session))
     decoded.write_bytes(run(given.vcd, "--pull-up", session))
     words = [f"--strips={strips}", *(notes(folder, decoded, *row) for row in rows), shown]
@@ -39,7 +40,7 @@ def main():
     for name in EXAMPLES:
         with tempfile.TemporaryDirectory() as folder:
             make(name, pathlib.Path(folder), given)
-        print(f"examples/{name}.session, examples/{name}.svg")
+        print(f"examples/{name}.session, examples/{name}.view, examples/{name}.svg")
 
 if __name__ == "__main__":
     main()

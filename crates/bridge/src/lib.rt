@@ -6,7 +6,7 @@ ghost use Rattle.bridge.specs.Judging.{isIdle};
 ghost use Rattle.bridge.specs.Calls.{numberOf, refusal, acceptance, given, lent, answerOf};
 
 mod judging;
-mod preparing;
+pub mod preparing;
 
 use grammar::Verdict;
 use registers::Event;

@@ -13,14 +13,14 @@ use registers::State;
 use signals::Waveform;
 
 // The page and the waveform to write, the samples used, the bytes of the actions, the new state, and the reply with its size.
-pub(crate) struct Ready {
-    pub(crate) page: Page,
-    pub(crate) wave: Waveform,
-    pub(crate) used: usize,
-    pub(crate) bytes: usize,
-    pub(crate) state: State,
-    pub(crate) reply: Reply,
-    pub(crate) size: usize,
+pub struct Ready {
+    pub page: Page,
+    pub wave: Waveform,
+    pub used: usize,
+    pub bytes: usize,
+    pub state: State,
+    pub reply: Reply,
+    pub size: usize,
 }
 
 // The state with the packet register that the samples gave.
@@ -40,8 +40,9 @@ fn receive(s: State, packet: Register) -> State
     }
 }
 
-// Measures an event. The caller shows that the state breaks no range and that the mark is not past the samples' end.
-pub(crate) fn prepare(s: State, event: Event, samples: &[u8], sampled: usize) -> Ready
+// Measures an event, for a caller that writes it where it wants. The caller shows that the state breaks no range and that the mark
+// is not past the samples' end.
+pub fn prepare(s: State, event: Event, samples: &[u8], sampled: usize) -> Ready
     requires { ⌜ InRange s × (sampled ≤ length (now samples)) ⌝ }
     ensures { λ r. ⌜ Prepared s event (now (samples .entry)) sampled r ⌝ }
 {

@@ -14,7 +14,6 @@ use crate::bits::with_bit;
 use crate::plans::awaiting;
 use crate::plans::decide;
 use crate::plans::make;
-use crate::plans::performing;
 use crate::plans::returning;
 use crate::plans::sending;
 use registers::Operand;

@@ -4,7 +4,6 @@ ghost use Rattle.commands.specs.Changes.{decided};
 ghost use Rattle.commands.specs.Extended.{extendedOf, runExtended};
 use crate::Answer;
 use crate::Bit;
-use crate::Change;
 use crate::Decision;
 use crate::ExtendedCommand;
 use crate::bits::with_bit;

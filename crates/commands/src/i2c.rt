@@ -3,7 +3,6 @@ ghost use mathlib.Core.Path.{_≡_};
 ghost use Rattle.commands.specs.Changes.{decided};
 ghost use Rattle.commands.specs.I2c.{i2cOf, runI2c};
 use crate::Answer;
-use crate::Change;
 use crate::Decision;
 use crate::I2cCommand;
 use crate::plans::awaiting;

@@ -3,7 +3,6 @@ ghost use mathlib.Core.Path.{_≡_};
 ghost use Rattle.commands.specs.Changes.{decided};
 ghost use Rattle.commands.specs.OneWire.{wireOf, runWire};
 use crate::Answer;
-use crate::Change;
 use crate::Decision;
 use crate::WireCommand;
 use crate::plans::awaiting;

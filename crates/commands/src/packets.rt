@@ -1,9 +1,9 @@
-// Packet bytes, and the packet register that they make.
+// Packet bytes: what each decides.
 ghost use mathlib.Core.Path.{_≡_};
 ghost use Rattle.commands.specs.Changes.{decided};
 ghost use Prim.Native.Nat.{_/_, _+_, _≤_, _<_};
 ghost use Rattle.packet.specs.Packet.{width};
-ghost use Rattle.commands.specs.Events.{loadedPlan, packetPlan};
+ghost use Rattle.commands.specs.Events.{packetPlan};
 use crate::Answer;
 use crate::Change;
 use crate::Decision;

@@ -7,7 +7,6 @@ ghost use Rattle.packet.specs.Packet.{width};
 ghost use Rattle.commands.specs.Plans.{plan, returns};
 ghost use Rattle.commands.specs.Spi.{spiOf, runSpi};
 use crate::Answer;
-use crate::Change;
 use crate::Decision;
 use crate::SpiCommand;
 use crate::plans::awaiting;

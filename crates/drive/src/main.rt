@@ -120,8 +120,18 @@ fn drive(input: &[u8]) {
     }
 }
 
+fn to_go_on() -> bool {
+    input::goes_on(
+        b"usage: drive\nPuts the events of standard input through the bridge's call and writes what each call answers.\n",
+        b"",
+    )
+}
+
 fn main() {
-    let mut input = io::large_buffer();
-    let n = io::read_full(0, &mut input);
-    drive(&input[..n]);
+    if !to_go_on() {
+        return;
+    }
+    let mut events = io::large_buffer();
+    let n = io::read_full(0, &mut events);
+    drive(&events[..n]);
 }

@@ -33,7 +33,17 @@ fn answer(bytes: &[u8]) {
     say(v);
 }
 
+fn to_go_on() -> bool {
+    input::goes_on(
+        b"usage: judge [FILE]\nSays of the command bytes in FILE, or in standard input, whether they are whole, open or wrong.\n",
+        b"",
+    )
+}
+
 fn main() {
+    if !to_go_on() {
+        return;
+    }
     let mut bytes = io::large_buffer();
     let Input::Whole(n) = input::read(&mut bytes) else {
         return;

@@ -6,7 +6,7 @@ use Prim.Native.Nat.{ℕ, zero, suc, _+_, _-_, _*_, _/_, _%_, _^_, _≤_, _<_}
 use native.Mathlib.Nat.{not-suc-le-zero}
 use native.Mathlib.Decide.{decLt}
 use native.Mathlib.Omega.{arith}
-use lib.ListN.{length, getD, length-reverse, List·getD-append, List·getD-eq-default}
+use lib.ListN.{length, getD, length-reverse, List·getD-append}
 use lib.Seq.{getD-at, getD-append-add, getD-take, length-take-le}
 use Rattle.packet.specs.Register.{byteBits, bits}
 use Rattle.packet.specs.Packet.{order, sent, sentAt}
@@ -56,10 +56,6 @@ unfolding order
 order-at true w bs i e h = refl
 order-at false w bs i e h = rw (← e) (sym (getD-reverse bs i (omega arith)))
 
--- past the register's bits there is none
-pub order-past : (high : Bool) (r : List ℕ) (i : ℕ) → 8 * length r ≤ i → 0 ≡ getD (order high (bits r)) i 0
-order-past high r i h = sym (List·getD-eq-default (order high (bits r)) 0 {n = i} (omega (arith, length-order high (bits r), length-bits r)))
-
 -- THE BITS SENT
 
 pub length-sent : (n : ℕ) (high : Bool) (r : List ℕ) → n ≤ 8 * length r → length (sent n high r) ≡ n
@@ -68,3 +64,25 @@ length-sent n high r h = length-take-le n (order high (bits r)) (omega (arith, l
 -- the bit sent at a step is the one at that place of all that are sent
 pub sent-at : (n : ℕ) (high : Bool) (r : List ℕ) (i : ℕ) → i < n → getD (sent n high r) i 0 ≡ sentAt high r i
 sent-at n high r i h = getD-take n (order high (bits r)) i 0 h
+
+-- BYTE BY BYTE: eight steps from a multiple of eight on are those of one byte
+
+pub one-byte : (b j : ℕ) → j < 8 → b / 2 ^ (7 - j) % 2 ≡ getD (bits (b ∷ [])) j 0
+one-byte b j h =
+    let e : 8 * 0 + j ≡ j = omega arith in
+    sym (bits-at (b ∷ []) 0 j (omega arith) h) ∙ ap (λ (n : ℕ). getD (bits (b ∷ [])) n 0) e
+
+same-bit : (r : List ℕ) (q j n : ℕ) → q < length r → j < 8 → 8 * q + j ≡ n → getD (bits (getD r q 0 ∷ [])) j 0 ≡ getD (bits r) n 0
+same-bit r q j n h hj e = sym (one-byte (getD r q 0) j hj) ∙ sym (bits-at r q j h hj) ∙ ap (λ (m : ℕ). getD (bits r) m 0) e
+
+pub byte-sent : (high : Bool) (w : ℕ) (r : List ℕ) (i j : ℕ) {b : ℕ} → length r ≡ w → i % 8 ≡ 0 → j < 8 → i + j < 8 * w → b ≡ getD r (cond high (i / 8) (w - 1 - i / 8)) 0
+    → sentAt high r (i + j) ≡ sentAt high (b ∷ []) j
+byte-sent high w r i j {b} l e hj h q =
+    sym (order-at high (8 * w) (bits r) (i + j) (length-bits r ∙ ap (λ (k : ℕ). 8 * k) l) h)
+    ∙ sym (mid high)
+    ∙ ap (λ (x : ℕ). getD (bits (x ∷ [])) (cond high j (7 - j)) 0) (sym q)
+    ∙ order-at high 8 (bits (b ∷ [])) j (length-bits (b ∷ [])) hj
+  where
+    mid : (t : Bool) → getD (bits (getD r (cond t (i / 8) (w - 1 - i / 8)) 0 ∷ [])) (cond t j (7 - j)) 0 ≡ getD (bits r) (cond t (i + j) (8 * w - 1 - (i + j))) 0
+    mid true = same-bit r (i / 8) j (i + j) (omega arith) hj (omega arith)
+    mid false = same-bit r (w - 1 - i / 8) (7 - j) (8 * w - 1 - (i + j)) (omega arith) (omega arith) (omega arith)

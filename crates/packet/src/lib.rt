@@ -2,7 +2,7 @@
 // of CONFIG_SPI.
 ghost use mathlib.Core.Path.{_≡_};
 ghost use mathlib.Core.Bool.{true, cond};
-ghost use Prim.Native.Nat.{_+_, _-_, _%_, _^_, _<_, _≤_, min};
+ghost use Prim.Native.Nat.{_+_, _-_, _/_, _%_, _^_, _<_, _≤_, min};
 ghost use mathlib.Core.List.{[], _∷_, _++_};
 ghost use lib.ListN.{drop, getD, length};
 ghost use Rattle.packet.specs.Register.{bits};
@@ -178,15 +178,31 @@ pub fn place_of(step: u8, n: u8, high: bool) -> u8
     n - 1 - step
 }
 
-// The bit that is sent at a step counted from 0; 0 past the register's bits.
-pub fn bit_to_send(r: Register, step: u8, high: bool) -> u8
+// The bit that is sent at a step counted from 0. The caller shows that the register has so many bits.
+pub fn bit_within(r: Register, step: u8, high: bool) -> u8
+    requires { ⌜ step < width ⌝ }
     ensures { λ b. ⌜ (b ≡ sentAt high r step) × (b < 2) ⌝ }
 {
-    if WIDTH <= step {
-        return 0;
-    }
     let place = place_of(step, WIDTH, high);
     bit_at(r, place)
+}
+
+// The byte whose bits are sent in the eight steps from a multiple of eight on. The caller shows that the register has so many bits.
+pub fn byte_to_send(r: Register, step: u8, high: bool) -> u8
+    requires { ⌜ step < width ⌝ }
+    ensures { λ b. ⌜ b ≡ getD r (cond high (step / 8) (registerBytes - 1 - step / 8)) 0 ⌝ }
+{
+    let i = place_of(step / 8, BYTES as u8, high) as usize;
+    r[i]
+}
+
+// The bit that is sent at a step of a byte. The caller shows that the step is one of its eight.
+pub fn bit_of_byte(b: u8, step: u8, high: bool) -> u8
+    requires { ⌜ step < 8 ⌝ }
+    ensures { λ x. ⌜ (x ≡ sentAt high (b ∷ []) step) × (x < 2) ⌝ }
+{
+    let place = place_of(step, 8, high);
+    (b >> (7 - place)) % 2
 }
 
 // How many low bytes of the register hold n bits.

@@ -1,24 +1,21 @@
 -- Where a record's body lies, and what a session finds. Assumes nothing.
-use Prim.Native.Nat.{ℕ, _+_, _-_, _≤_, _<_}
+use Prim.Native.Nat.{ℕ, suc, _+_, _-_, _≤_, _<_}
 use mathlib.Core.Path.{_≡_, subst}
 use mathlib.Core.Bool.{true, _&&_}
 use mathlib.Core.List.{List}
 use native.Mathlib.Omega.{arith}
 use native.Mathlib.Nat.{le-refl}
-use borrow.Author.Tests.{leb-false, ltb-false, ltb-true, leb-true, eqb-true}
+use borrow.Author.Tests.{leb-false, ltb-false, leb-true, eqb-true}
 use lib.Dec.{eqb, leb, ltb}
 use lib.ListN.{length, getD, length-take, length-drop}
 use Rattle.registers.proofs.InRange.{both-left, both-right}
 use Rattle.records.specs.Records.{Record, word, part, recordAt}
-use Rattle.records.specs.Found.{Found, faultOf, faultBody, kindOf, taken, foundAt}
+use Rattle.records.specs.Found.{Found, faultOf, kindOf, taken, foundAt}
 use Rattle.records.specs.declared.reading.Record.the-variants as r
 use Rattle.records.specs.declared.found.Found.the-variants as f
 use Rattle.records.proofs.Choices.{by-cond}
 
 -- A PART OF THE FILE, by the two tests of its start and end
-pub inside : (at end size : ℕ) → ltb at end && leb end size ≡ true → (at < end) × (end ≤ size)
-inside at end size t = (ltb-true at end (both-left (ltb at end) (leb end size) t), leb-true end size (both-right (ltb at end) (leb end size) t))
-
 pub part-of : (start end size : ℕ) → leb start end && leb end size ≡ true → (start ≤ end) × (end ≤ size)
 part-of start end size t = (leb-true start end (both-left (leb start end) (leb end size) t), leb-true end size (both-right (leb start end) (leb end size) t))
 
@@ -71,5 +68,5 @@ pub further : (s : List ℕ) (at end : ℕ) → Further s at (foundAt s at end)
 unfolding foundAt
 further s at end =
     by-cond (Further s at) (ltb at end && leb end (length s))
-    (λ t. let h = inside at end (length s) t in (le-refl at, omega (arith, h .0, h .1)))
+    (λ t. let h = part-of (suc at) end (length s) t in (le-refl at, omega (arith, h .0, h .1)))
     (λ t. taken-further s at (recordAt s at) (within s at))

@@ -30,11 +30,12 @@ pub struct Page {
     pub timings: [u8; TIMINGS],
 }
 
-// What all benches share: the EPROM image, the IOG count, the version and the serial number, low byte first.
+// What all benches share: the EPROM image, the version, the IOG count and the serial number, low byte first. Their order, too, is the
+// one that compiles best.
 pub struct Shared {
     pub eprom: [u8; 10],
-    pub cycles: u8,
     pub version: u8,
+    pub cycles: u8,
     pub serial: [u8; 4],
 }
 

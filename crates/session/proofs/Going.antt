@@ -2,21 +2,19 @@
 use Prim.Native.Nat.{ℕ, _+_, _-_, _≤_, _<_}
 use mathlib.Core.Path.{_≡_, refl, sym, ap, _∙_, subst}
 use mathlib.Core.Bool.{true, false, true≢false}
-use mathlib.Core.List.{List, [], _++_, append-assoc}
+use mathlib.Core.List.{List, _++_, append-assoc}
 use mathlib.Core.Logic.{_⊎_, inl, inr, ⊎-elim}
 use native.Mathlib.Omega.{arith}
 use native.Mathlib.Nat.{le-refl, zero-add}
 use borrow.Author.Tests.{le-leb, lt-leb}
-use lib.Dec.{leb}
 use lib.ListN.{length, take, drop, length-take, length-drop}
 use lib.Seq.{drop-drop}
-use Rattle.wire.specs.Buffer.{overwrite, Written}
+use Rattle.wire.specs.Buffer.{overwrite}
 use Rattle.wire.proofs.Buffers.{overwrite-length, overwrite-beyond, overwrite-through, written-after}
 use Rattle.registers.specs.Ranges.{stateFits, InRange}
 use Rattle.registers.proofs.InRange.{range-test}
 use Rattle.records.specs.declared.Refusal.{Refusal}
 use Rattle.records.specs.declared.Refusal.the-variants.{Ranges, Size}
-use Rattle.records.specs.declared.found.Found.{Found}
 use Rattle.records.specs.Found.{foundAt}
 use Rattle.session.specs.Replay.{Cursor, Turn, turnOf, finished, stopped, stepOf, restOf}
 use Rattle.session.specs.Runs.{Ran, mostOutput, left, Runs}

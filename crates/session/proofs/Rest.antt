@@ -1,6 +1,6 @@
 -- A step takes a part of the file or is the last, so the steps that `restOf` allows are enough, and what remains is what a step
 -- writes and what remains after it. Assumes nothing.
-use Prim.Native.Nat.{ℕ, zero, suc, _+_, _-_, _≤_, _<_}
+use Prim.Native.Nat.{ℕ, zero, suc, _-_, _≤_, _<_}
 use mathlib.Core.Path.{_≡_, refl, sym, ap, _∙_}
 use mathlib.Core.Bool.{Bool, true, false, cond}
 use mathlib.Core.List.{List, [], _++_}
@@ -14,7 +14,7 @@ use Rattle.records.specs.declared.found.Found.{Found}
 use Rattle.records.specs.Found.{foundAt}
 use Rattle.records.specs.declared.found.Found.the-variants as f
 use Rattle.session.specs.Replay.{Cursor, Turn, lentTo, turnOf, stepOf, restFor, restOf, replayOf}
-use Rattle.session.specs.Runs.{left, Runs, Calls, over, call, JoinedChunks, RestStep}
+use Rattle.session.specs.Runs.{left, Calls, over, call, JoinedChunks, RestStep}
 use Rattle.records.proofs.Choices.{by-cond, by-bool}
 use Rattle.records.proofs.Bodies.{Further, further}
 

@@ -1,5 +1,5 @@
 -- What a step's proof needs of what was found. Assumes nothing.
-use Prim.Native.Nat.{ℕ, _+_, _-_, _^_, _<_}
+use Prim.Native.Nat.{ℕ, _+_, _^_, _<_}
 use mathlib.Core.Path.{_≡_, refl, subst, subst⁻¹}
 use mathlib.Core.Bool.{_&&_}
 use mathlib.Core.List.{List, []}

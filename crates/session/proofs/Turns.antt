@@ -1,26 +1,27 @@
 -- A step's parts, over plain variables. Assumes nothing.
-use Prim.Native.Nat.{ℕ, _+_, _*_, _≤_}
-use mathlib.Core.Path.{_≡_, refl, subst}
+use Prim.Native.Nat.{ℕ, _+_, _≤_}
+use mathlib.Core.Path.{_≡_, refl, ap, subst}
 use mathlib.Core.Bool.{Bool, true, false, _||_, true≢false}
-use mathlib.Core.List.{List, [], _∷_}
+use mathlib.Core.List.{List}
 use mathlib.Core.Logic.{inl, inr}
 use native.Mathlib.Omega.{arith}
 use borrow.Author.Tests.{eq-eqb, ne-eqb, ltb-true, ltb-false}
 use lib.Dec.{ltb}
-use lib.ListN.{length, getD}
-use Rattle.wire.specs.Buffer.{Written}
+use lib.ListN.{length}
+use Rattle.wire.specs.Buffer.{overwrite, Written}
+use Rattle.wire.proofs.Buffers.{written-append}
 use Rattle.records.specs.Records.{headOf, recordOf}
 use Rattle.session.specs.Replay.{Cursor, Turn}
 use Rattle.session.specs.Runs.{Ran, mostOutput}
 use Rattle.session.specs.Turned.{Turned, Headed, Barred}
 
--- A HEADER in front of n actions, four bytes each
+-- A HEADER in front of so many bytes that stand there
 
-pub headed-none : (o : List ℕ) (kind n : ℕ) → n ≡ 0 → Headed o kind (4 * n) o 0
-headed-none o kind n e = let q = eq-eqb (4 * n) 0 (omega arith) in record { bytes = rw q; after = rw q }
+pub headed-none : (o : List ℕ) (kind size : ℕ) → size ≡ 0 → Headed o kind size o 0
+headed-none o kind size e = let q = eq-eqb size 0 e in record { bytes = rw q; after = rw q }
 
-pub headed-some : (o : List ℕ) (kind n : ℕ) {x : List ℕ} {m : ℕ} → (n ≡ 0 → ⊥) → Written o 0 (headOf kind (4 * n)) x m → Headed o kind (4 * n) x (m + 4 * n)
-headed-some o kind n ne w = let q = ne-eqb (4 * n) 0 (λ e. ne (omega arith)) in record { bytes = rw q (w .bytes); after = rw q (omega (arith, w .after)) }
+pub headed-some : (o : List ℕ) (kind size : ℕ) {x : List ℕ} {m : ℕ} → (size ≡ 0 → ⊥) → Written o 0 (headOf kind size) x m → Headed o kind size x (m + size)
+headed-some o kind size ne w = let q = ne-eqb size 0 ne in record { bytes = rw q (w .bytes); after = rw q (omega (arith, w .after)) }
 
 -- A RUN THAT IS BARRED: done already or without room, or not
 
@@ -46,11 +47,7 @@ module _ (c : Cursor) (t : Turn) (o : List ℕ) where
       go true e k = absurd (true≢false k)
       go false e k = inr (e, room-for h, u)
 
--- A RECORD OF ONE BYTE, that byte given
-one-byte : (xs : List ℕ) → length xs ≡ 1 → getD xs 0 0 ∷ [] ≡ xs
-one-byte [] e = absurd (omega arith)
-one-byte (x ∷ []) e = refl
-one-byte (x ∷ y ∷ xs) e = absurd (omega arith)
-
-pub one-record : (kind : ℕ) (xs : List ℕ) {o x : List ℕ} {at n : ℕ} → length xs ≡ 1 → Written o at (recordOf kind (getD xs 0 0 ∷ [])) x n → Written o at (recordOf kind xs) x n
-one-record kind xs {o} {x} {at} {n} e w = subst (λ (ys : List ℕ). Written o at (recordOf kind ys) x n) (one-byte xs e) w
+-- A RECORD: its header written, and then so many bytes after it
+pub record-from : (o : List ℕ) (at kind : ℕ) (xs : List ℕ) {m x : List ℕ} {k n : ℕ} → k ≡ length xs → Written o at (headOf kind k) m n → x ≡ overwrite m n xs → Written o at (recordOf kind xs) x (n + k)
+record-from o at kind xs {m} {x} {k} {n} e w b =
+    written-append o at (headOf kind (length xs)) xs (subst (λ (v : ℕ). Written o at (headOf kind v) m n) e w) (record { bytes = b; after = ap (λ (v : ℕ). n + v) e })

@@ -1,5 +1,4 @@
 // One event of a replay.
-ghost use mathlib.Core.Path.{_≡_};
 ghost use Prim.Native.Nat.{_+_, _≤_, _<_, _^_};
 ghost use lib.ListN.{length};
 ghost use Rattle.registers.specs.Ranges.{InRange};
@@ -10,9 +9,9 @@ use crate::output;
 use crate::replay::Cursor;
 use crate::replay::Ran;
 use crate::replay::ended;
-use bridge::Outcome;
+use bridge::Bridge;
+use bridge::preparing::prepare;
 use records::Refusal;
-use records::reading::HEADER;
 use registers::Event;
 
 // The most reply bytes of an event.
@@ -28,8 +27,8 @@ pub(crate) fn stop(why: Refusal, place: usize, out: &mut [u8]) -> Ran
     Ran { cursor, written }
 }
 
-// An event at a place, with its samples. Its actions go to the output itself, behind room for their header. The caller shows that
-// the state breaks no range, that there is room for any event's output, and that the places are numbers of a file.
+// An event at a place, with its samples. What it writes goes to the output itself. The caller shows that the state breaks no range,
+// that there is room for any event's output, and that the places are numbers of a file.
 pub(crate) fn carry_out(
     c: Cursor,
     event: Event,
@@ -40,26 +39,25 @@ pub(crate) fn carry_out(
     requires { ⌜ InRange (c .bridge .state) × (mostOutput ≤ length (now out)) × (place + 1 < 2 ^ 64) × (c .sample + length (now samples) < 2 ^ 64) ⌝ }
     ensures { λ r. ⌜ Turned (eventTurn c event place (now (samples .entry))) (now (out .entry)) (now (out .exit)) r ⌝ }
 {
-    let mut replies = [0u8; MOST_REPLIES];
-    let b = c.bridge;
-    let r = b.step_in_range(event, samples, 0, out, HEADER, &mut replies, 0);
-    let outcome = r.outcome;
-    match outcome {
-        Outcome::Refused(_) => stop(Refusal::Samples, place, out),
-        Outcome::Taken => {
-            let at = output::put_actions_head(out, r.actions);
-            let n = r.replies;
-            let written = output::put_replies(out, at, &replies[..n]);
-            let bridge = r.bridge;
-            let cursor = Cursor {
-                bridge,
-                at: place + 1,
-                end: c.end,
-                sample: c.sample + r.samples,
-                sampled: c.sampled,
-                done: false,
-            };
-            Ran { cursor, written }
-        }
+    let s = c.bridge.state;
+    let r = prepare(s, event, samples, 0);
+    if !wire::fits(samples.len(), 0, r.used) {
+        return stop(Refusal::Samples, place, out);
     }
+    let page = r.page;
+    let wave = r.wave;
+    let next = r.state;
+    let reply = r.reply;
+    let at = output::put_actions(out, page, wave, samples);
+    let written = output::put_replies(out, at, next, reply, r.size);
+    let bridge = Bridge { state: next };
+    let cursor = Cursor {
+        bridge,
+        at: place + 1,
+        end: c.end,
+        sample: c.sample + r.used,
+        sampled: c.sampled,
+        done: false,
+    };
+    Ran { cursor, written }
 }

@@ -1,18 +1,27 @@
 // The records that a replay writes.
 ghost use mathlib.Core.Path.{_≡_};
 ghost use mathlib.Core.Bool.{cond};
-ghost use Prim.Native.Nat.{_+_, _*_, _≤_};
-ghost use lib.Dec.{eqb};
+ghost use Prim.Native.Nat.{_+_, _≤_, _<_};
 ghost use lib.ListN.{length};
-ghost use Rattle.wire.specs.Buffer.{Written, overwrite};
+ghost use Rattle.wire.specs.Action.{bytesOf};
+ghost use Rattle.wire.specs.Buffer.{Written};
+ghost use Rattle.packet.specs.Packet.{width};
+ghost use Rattle.signals.specs.Waveforms.{waveOf};
+ghost use Rattle.commands.specs.Replies.{replyBytes};
 ghost use Rattle.session.specs.Replay.{unlessEmpty, lastOf, refusalOf};
 ghost use Rattle.session.specs.Turned.{Headed};
 ghost use Rattle.bridge.specs.Judging.{isIdle};
+use commands::Reply;
+use commands::sending::put_reply;
 use records::Refusal;
 use records::number;
+use records::reading::HEADER;
 use records::writing::put_head;
 use records::writing::put_record;
+use registers::Page;
+use registers::State;
 use registers::Wait;
+use signals::Waveform;
 
 // The kinds of output records.
 const REPLIES: u16 = 0x0101;
@@ -23,31 +32,39 @@ const LAST: u16 = 0x0104;
 
 const REFUSAL: u16 = 0x01FF;
 
-// The reply bytes as a record, none if empty, at a place where the caller shows room for it. Most events reply with one byte,
-// which is written without a copy of unknown length.
-pub(crate) fn put_replies(out: &mut [u8], at: usize, bytes: &[u8]) -> usize
-    requires { ⌜ at + 4 + length (now bytes) ≤ length (now out) ⌝ }
-    ensures { λ n. ⌜ Written (now (out .entry)) at (unlessEmpty 0x0101 (now (bytes .entry))) (now (out .exit)) n ⌝ }
+// The header in front of so many bytes of actions that stand in the buffer already, none if there are none.
+fn put_actions_head(out: &mut [u8], size: usize) -> usize
+    requires { ⌜ 4 + size ≤ length (now out) ⌝ }
+    ensures { λ n. ⌜ Headed (now (out .entry)) 0x0102 size (now (out .exit)) n ⌝ }
 {
-    if bytes.len() == 0 {
-        return at;
-    }
-    if bytes.len() == 1 {
-        return put_record(out, at, REPLIES, &[bytes[0]]);
-    }
-    put_record(out, at, REPLIES, bytes)
-}
-
-// The header in front of so many actions that stand in the buffer already, none if there are none.
-pub(crate) fn put_actions_head(out: &mut [u8], actions: usize) -> usize
-    requires { ⌜ 4 + 4 * actions ≤ length (now out) ⌝ }
-    ensures { λ n. ⌜ Headed (now (out .entry)) 0x0102 (4 * actions) (now (out .exit)) n ⌝ }
-{
-    if actions == 0 {
+    if size == 0 {
         return 0;
     }
-    let size = wire::ACTION_BYTES * actions;
     put_head(out, 0, ACTIONS, size) + size
+}
+
+// A waveform's actions as a record, none if there are none, at the front of a buffer: behind room for their header, which is put
+// there when they are counted. The caller shows that the size register is in range and that they fit.
+pub(crate) fn put_actions(out: &mut [u8], page: Page, wave: Waveform, samples: &[u8]) -> usize
+    requires { ⌜ (page .size < width) × (4 + length (bytesOf ((waveOf page wave (now samples) 0) .actions)) ≤ length (now out)) ⌝ }
+    ensures { λ n. ⌜ Written (now (out .entry)) 0 (unlessEmpty 0x0102 (bytesOf ((waveOf page wave (now (samples .entry)) 0) .actions))) (now (out .exit)) n ⌝ }
+{
+    let size = signals::write(&mut out[HEADER..], page, wave, samples, 0);
+    put_actions_head(out, size)
+}
+
+// A reply of so many bytes as a record, none if it is empty, at a place. The caller shows that it has so many, that the size
+// register is in range and that they fit there.
+pub(crate) fn put_replies(out: &mut [u8], at: usize, s: State, reply: Reply, size: usize) -> usize
+    requires { ⌜ (s .page .size < width) × (size ≡ length (replyBytes s reply)) × (at + 4 + size ≤ length (now out)) ⌝ }
+    ensures { λ n. ⌜ Written (now (out .entry)) at (unlessEmpty 0x0101 (replyBytes s reply)) (now (out .exit)) n ⌝ }
+{
+    if size == 0 {
+        return at;
+    }
+    let n = put_head(out, at, REPLIES, size);
+    put_reply(&mut out[n..], s, reply);
+    n + size
 }
 
 // 1 if something is waited for.

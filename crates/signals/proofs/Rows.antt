@@ -32,6 +32,9 @@ pub record Owed (f : ℕ → List Action) (xs entry : List ℕ) (start i : ℕ) 
 pub owed-all : (f : ℕ → List Action) (xs out : List ℕ) (at : ℕ) → Owed f xs out at 0 out at
 owed-all f xs out at = record { size = refl; place = refl; bytes = refl }
 
+pub owed-at : {f : ℕ → List Action} {xs l m : List ℕ} {start at i k : ℕ} → i ≡ k → Owed f xs l start i m at → Owed f xs l start k m at
+owed-at {f} {xs} {l} {m} {start} {at} e o = subst (λ (j : ℕ). Owed f xs l start j m at) e o
+
 -- the next row fits where all of them do
 pub owed-fits : (f : ℕ → List Action) (xs : List ℕ) {l m : List ℕ} {start at i x : ℕ} → Owed f xs l start i m at → i < length xs → getD xs i 0 ≡ x
     → start + length (bytesOf (each f xs)) ≤ length l → at + length (bytesOf (f x)) ≤ length m

@@ -1,6 +1,6 @@
 // Rows of actions on ports and single lines.
 ghost use mathlib.Core.Path.{_≡_};
-ghost use Prim.Native.Nat.{_+_, _≤_};
+ghost use Prim.Native.Nat.{_≤_};
 ghost use mathlib.Core.List.{[], _∷_, _++_};
 ghost use lib.ListN.{length};
 ghost use Rattle.wire.specs.Action.{action, bytesOf, setLatch, pb7, noLine};

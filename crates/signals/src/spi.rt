@@ -40,7 +40,7 @@ fn put_bit(out: &mut [u8], at: usize, polarity: u8, phase: bool, bit: u8) -> usi
     wire::put_action(out, f, back, SCK, 0)
 }
 
-// N bits exchanged.
+// N bits exchanged: whole bytes, eight bits each, and then those that are left.
 fn put_bits(
     out: &mut [u8],
     at: usize,
@@ -55,8 +55,18 @@ fn put_bits(
 {
     let mut next = at;
     let mut i: u8 = 0;
+    while 8 <= n - i {
+        let byte = packet::byte_to_send(r, i, high);
+        let mut j: u8 = 0;
+        while j < 8 {
+            let bit = packet::bit_of_byte(byte, j, high);
+            next = put_bit(out, next, polarity, phase, bit);
+            j += 1;
+        }
+        i += 8;
+    }
     while i < n {
-        let bit = packet::bit_to_send(r, i, high);
+        let bit = packet::bit_within(r, i, high);
         next = put_bit(out, next, polarity, phase, bit);
         i += 1;
     }

@@ -1,6 +1,7 @@
 // The actions of an event, as a replay writes them.
 use wire::ACTION_BYTES;
 use wire::VERB_SAMPLE_LINE;
+use wire::VERB_SAMPLE_PORT;
 use wire::VERB_WAIT_CYCLES;
 use wire::VERB_WAIT_MICROSECONDS;
 use wire::VERB_WAIT_MILLISECONDS;
@@ -44,7 +45,17 @@ pub(crate) fn action_at(actions: &[u8], at: usize) -> Action {
     }
 }
 
-// How long a wait is; what is no wait has no length.
+pub(crate) fn is_wait(a: Action) -> bool {
+    (a.verb == VERB_WAIT_MICROSECONDS)
+        | (a.verb == VERB_WAIT_MILLISECONDS)
+        | (a.verb == VERB_WAIT_CYCLES)
+}
+
+pub(crate) fn is_sample(a: Action) -> bool {
+    (a.verb == VERB_SAMPLE_LINE) | (a.verb == VERB_SAMPLE_PORT)
+}
+
+// How long a wait is, an IOG cycle taken as a microsecond; what is no wait has no length.
 pub(crate) fn wait_of(a: Action) -> u64 {
     let value = a.value as u64;
     let verb = a.verb;

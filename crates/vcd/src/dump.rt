@@ -1,7 +1,6 @@
 // What a dump shows: nine lines and the direction and latch registers of three ports, and when they change.
-use crate::text::put_level;
-use crate::text::put_register;
 use crate::text::put_time;
+use crate::text::put_value;
 
 // How many lines there are; the variables after them are registers.
 pub(crate) const LINES: usize = 9;
@@ -28,7 +27,7 @@ const IDENTIFIERS: [u8; VARIABLES] = [
 
 // The variables from which on nothing is shown, the level of a line that nobody drives, which lines are driven, the variables' values
 // now and as they were last written, the time in microseconds and whether it is written, the place in the session of the next
-// sample, and how much text is collected.
+// sample, how much text is collected, and whether text could not be written.
 pub(crate) struct Dump {
     pub(crate) shown: usize,
     pub(crate) free: u8,
@@ -39,6 +38,7 @@ pub(crate) struct Dump {
     pub(crate) stamped: bool,
     pub(crate) sample: usize,
     pub(crate) used: usize,
+    pub(crate) broken: bool,
 }
 
 // The start of a dump: the time 0 is written, and no variable, which `x` says. With pull-ups a free line is high, and the registers
@@ -72,6 +72,7 @@ pub(crate) fn start(pull_up: bool) -> Dump {
         stamped: true,
         sample: 0,
         used: 0,
+        broken: false,
     }
 }
 
@@ -97,6 +98,12 @@ impl Dump {
         self
     }
 
+    // An event's samples are read from a place of the session on.
+    pub(crate) fn at_sample(mut self, place: usize) -> Dump {
+        self.sample = place;
+        self
+    }
+
     // Writes the time, unless it is written.
     pub(crate) fn stamp(mut self, text: &mut [u8]) -> Dump {
         if !self.stamped {
@@ -118,11 +125,7 @@ impl Dump {
         let mut d = self.stamp(text);
         let name = IDENTIFIERS[variable];
         d.written[variable] = value;
-        if variable < LINES {
-            d.used = put_level(text, d.used, value, name);
-            return d;
-        }
-        d.used = put_register(text, d.used, value, name);
+        d.used = put_value(text, d.used, variable < LINES, value, name);
         d
     }
 

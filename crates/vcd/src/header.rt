@@ -25,24 +25,33 @@ fn write_comment(pull_up: bool) {
 }
 
 fn write_lines() {
-    io::write_all(STDOUT_FILENO, b"$var wire 1 A SCL $end\n");
-    io::write_all(STDOUT_FILENO, b"$var wire 1 B SDA $end\n");
-    io::write_all(STDOUT_FILENO, b"$var wire 1 C CS $end\n");
-    io::write_all(STDOUT_FILENO, b"$var wire 1 D SCK $end\n");
-    io::write_all(STDOUT_FILENO, b"$var wire 1 E MOSI $end\n");
-    io::write_all(STDOUT_FILENO, b"$var wire 1 F MISO $end\n");
-    io::write_all(STDOUT_FILENO, b"$var wire 1 G SS $end\n");
-    io::write_all(STDOUT_FILENO, b"$var wire 1 H DQ $end\n");
-    io::write_all(STDOUT_FILENO, b"$var wire 1 I PB7 $end\n");
+    io::write_all(
+        STDOUT_FILENO,
+        b"$var wire 1 A SCL $end\n$var wire 1 B SDA $end\n$var wire 1 C CS $end\n",
+    );
+    io::write_all(
+        STDOUT_FILENO,
+        b"$var wire 1 D SCK $end\n$var wire 1 E MOSI $end\n$var wire 1 F MISO $end\n",
+    );
+    io::write_all(
+        STDOUT_FILENO,
+        b"$var wire 1 G SS $end\n$var wire 1 H DQ $end\n$var wire 1 I PB7 $end\n",
+    );
 }
 
 fn write_registers() {
-    io::write_all(STDOUT_FILENO, b"$var wire 8 J DDRB $end\n");
-    io::write_all(STDOUT_FILENO, b"$var wire 8 K PORTB $end\n");
-    io::write_all(STDOUT_FILENO, b"$var wire 8 L DDRC $end\n");
-    io::write_all(STDOUT_FILENO, b"$var wire 8 M PORTC $end\n");
-    io::write_all(STDOUT_FILENO, b"$var wire 8 N DDRD $end\n");
-    io::write_all(STDOUT_FILENO, b"$var wire 8 O PORTD $end\n");
+    io::write_all(
+        STDOUT_FILENO,
+        b"$var wire 8 J DDRB $end\n$var wire 8 K PORTB $end\n",
+    );
+    io::write_all(
+        STDOUT_FILENO,
+        b"$var wire 8 L DDRC $end\n$var wire 8 M PORTC $end\n",
+    );
+    io::write_all(
+        STDOUT_FILENO,
+        b"$var wire 8 N DDRD $end\n$var wire 8 O PORTD $end\n",
+    );
 }
 
 // Everything before the first values. With pull-ups the registers are left out, since some readers take no value of more than one

@@ -1,10 +1,5 @@
 // Writes a session, that of standard input or of the file that the argument names, as a Value Change Dump (IEEE 1364) of the lines
 // and the ports' registers.
-ghost use mathlib.Core.Path.{_≡_};
-ghost use mathlib.Core.Bool.{false};
-ghost use Prim.Native.Nat.{_<_};
-ghost use Rattle.session.specs.Runs.{left};
-
 mod actions;
 mod dump;
 mod header;
@@ -16,7 +11,6 @@ use dump::Dump;
 use input::Input;
 use records::reading::Record;
 use records::reading::record_at;
-use session::replay::Cursor;
 
 // The kinds of a replay's records that the dump shows.
 const ACTIONS: usize = 0x0102;
@@ -25,24 +19,26 @@ const LAST: usize = 0x0104;
 
 const REFUSAL: usize = 0x01FF;
 
-// Where the replay stands, and the dump so far.
-struct Shown {
-    cursor: Cursor,
-    dump: Dump,
-}
-
-fn print_usage() -> bool {
+fn goes_on() -> bool {
     input::goes_on(
         b"usage: vcd [--pull-up] [FILE]\nWrites the session in FILE, or in standard input, as a Value Change Dump to standard output.\n--pull-up shows a released line high and leaves the ports out.\n",
         b"--pull-up",
     )
 }
 
+// What is collected goes out; text that can't be written ends the dump.
+fn send(mut d: Dump, text: &[u8]) -> Dump {
+    if !text::flush(text, d.used) {
+        os::fail(b"standard output");
+        d.broken = true;
+    }
+    d.used = 0;
+    d
+}
+
 // The session ends here with a refusal, which stands in the dump after all else.
 fn refuse(d: Dump, body: &[u8], text: &mut [u8]) -> Dump {
-    let mut e = d.stamp(text);
-    text::flush(text, e.used);
-    e.used = 0;
+    let e = send(d.stamp(text), text);
     refusal::say_refusal(body);
     e
 }
@@ -67,47 +63,35 @@ fn show_step(d: Dump, records: &[u8], session: &[u8], text: &mut [u8]) -> Dump {
     if records.len() < end {
         return d;
     }
-    show_record(d, kind, &records[start..end], session, text)
+    send(
+        show_record(d, kind, &records[start..end], session, text),
+        text,
+    )
 }
 
-// One step of the replay, and its text goes out; text that can't be written ends the dump.
-fn step(cursor: Cursor, dump: Dump, session: &[u8], text: &mut [u8]) -> Shown
-    ensures { λ r. ⌜ (cursor .done ≡ false → left (now (session .entry)) (r .cursor) < left (now (session .entry)) cursor) ⌝ }
-{
-    let mut records = io::buffer();
-    let r = session::replay::advance(cursor, session, &mut records);
-    let n = r.written;
-    let mut next = r.cursor;
-    let mut d = dump;
-    d.sample = cursor.sample;
-    let mut shown = show_step(d, &records[..n], session, text);
-    if !text::flush(text, shown.used) {
-        os::fail(b"standard output");
-        next.done = true;
-    }
-    shown.used = 0;
-    Shown {
-        cursor: next,
-        dump: shown,
-    }
-}
-
+// Each step of the replay by itself, since the dump goes by events.
 fn write_dump(session: &[u8], pull_up: bool) {
     let mut text = io::large_buffer();
+    let mut records = io::buffer();
     let mut d = header::begin(pull_up, &mut text);
     let mut cursor = session::replay::start();
     while !cursor.done {
-        let r = step(cursor, d, session, &mut text);
+        let from = d.at_sample(cursor.sample);
+        let r = session::replay::advance(cursor, session, &mut records);
+        let n = r.written;
         let next = r.cursor;
         cursor = next;
-        let e = r.dump;
-        d = e;
+        let shown = show_step(from, &records[..n], session, &mut text);
+        if shown.broken {
+            return;
+        }
+        d = shown;
     }
 }
 
 // One byte more than a session may have is enough to refuse it for its size.
 fn main() {
-    if !print_usage() {
+    if !goes_on() {
         return;
     }
     let mut session = [0u8; 32769];

@@ -1,36 +1,7 @@
-// A refusal in words, as the table of 01 has it.
+// The refusal that a session ends with, in the dump and on standard error.
 ghost use Prim.Native.Nat.{_<_};
 use libc::STDERR_FILENO;
 use libc::STDOUT_FILENO;
-
-fn write_reason(fd: i32, number: u8) {
-    match number {
-        1 => {
-            io::write_all(fd, b"the state breaks its ranges");
-        }
-        2 => {
-            io::write_all(fd, b"fewer samples are left than the event uses");
-        }
-        5 => {
-            io::write_all(fd, b"1 to 3 bytes left where a record header should be");
-        }
-        6 => {
-            io::write_all(fd, b"record length over 4,096");
-        }
-        7 => {
-            io::write_all(fd, b"record body passes the end");
-        }
-        8 => {
-            io::write_all(fd, b"unknown kind");
-        }
-        9 => {
-            io::write_all(fd, b"a fault body is not one byte of 81, 82, 83 hex");
-        }
-        _ => {
-            io::write_all(fd, b"session over 32,768 bytes");
-        }
-    }
-}
 
 fn write_refusal(fd: i32, number: u8, place: u64) {
     io::write_all(fd, b"refusal ");
@@ -38,7 +9,7 @@ fn write_refusal(fd: i32, number: u8, place: u64) {
     io::write_all(fd, b" at byte ");
     io::print_decimal(fd, place);
     io::write_all(fd, b": ");
-    write_reason(fd, number);
+    refusals::write_reason(fd, number as usize);
 }
 
 fn word(low: u8, high: u8) -> u64

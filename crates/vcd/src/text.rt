@@ -31,31 +31,44 @@ pub(crate) fn put_time(text: &mut [u8], used: usize, time: u64) -> usize {
 }
 
 // A line's level, `0`, `1` or `z`, with its identifier.
-pub(crate) fn put_level(text: &mut [u8], used: usize, level: u8, identifier: u8) -> usize {
+fn put_level(text: &mut [u8], used: usize, level: u8, identifier: u8) -> usize {
     put(text, used, &[level, identifier, b'\n'])
 }
 
-// The digit of a bit, which is 0 or 1.
-fn digit(bit: u8) -> u8 {
-    if bit == 0 { b'0' } else { b'1' }
+// The digit of a byte's lowest bit.
+fn digit(byte: u8) -> u8 {
+    b'0' + byte % 2
 }
 
 // A register's byte in binary digits, the high bit first, with its identifier.
-pub(crate) fn put_register(text: &mut [u8], used: usize, byte: u8, identifier: u8) -> usize {
-    let high = [
+fn put_register(text: &mut [u8], used: usize, byte: u8, identifier: u8) -> usize {
+    let row = [
+        b'b',
         digit(byte / 128),
-        digit(byte / 64 % 2),
-        digit(byte / 32 % 2),
-        digit(byte / 16 % 2),
+        digit(byte / 64),
+        digit(byte / 32),
+        digit(byte / 16),
+        digit(byte / 8),
+        digit(byte / 4),
+        digit(byte / 2),
+        digit(byte),
+        b' ',
+        identifier,
+        b'\n',
     ];
-    let low = [
-        digit(byte / 8 % 2),
-        digit(byte / 4 % 2),
-        digit(byte / 2 % 2),
-        digit(byte % 2),
-    ];
-    let start = put(text, used, b"b");
-    let middle = put(text, start, &high);
-    let end = put(text, middle, &low);
-    put(text, end, &[b' ', identifier, b'\n'])
+    put(text, used, &row)
+}
+
+// A line's level or a register's byte.
+pub(crate) fn put_value(
+    text: &mut [u8],
+    used: usize,
+    is_line: bool,
+    value: u8,
+    identifier: u8,
+) -> usize {
+    if is_line {
+        return put_level(text, used, value, identifier);
+    }
+    put_register(text, used, value, identifier)
 }

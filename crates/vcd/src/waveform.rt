@@ -1,9 +1,11 @@
 // The waveform of an event.
-ghost use Prim.Native.Nat.{_<_};
+ghost use Prim.Native.Nat.{_<_, _≤_};
 use crate::actions::Action;
 use crate::actions::NEAR;
 use crate::actions::action_at;
+use crate::actions::is_sample;
 use crate::actions::is_sampled;
+use crate::actions::is_wait;
 use crate::actions::no_action;
 use crate::actions::wait_of;
 use crate::dump::Dump;
@@ -17,7 +19,6 @@ use wire::VERB_DRIVE_LOW;
 use wire::VERB_LATCH;
 use wire::VERB_RELEASE;
 use wire::VERB_SAMPLE_LINE;
-use wire::VERB_SAMPLE_PORT;
 
 // The level that the next sample of the event shows. An event samples one line only, so its next sample is that line's.
 fn next_level(d: Dump, session: &[u8]) -> u8 {
@@ -28,21 +29,15 @@ fn next_level(d: Dump, session: &[u8]) -> u8 {
     }
 }
 
-// What a line that is not driven shows until its next action: the level that is sampled there, or else another.
-fn ahead(d: Dump, line: usize, actions: &[u8], session: &[u8], other: u8) -> u8 {
-    if is_sampled(actions, line) {
-        return next_level(d, session);
-    }
-    other
-}
-
-// A line that is not driven shows what is ahead, or is free.
+// A line that is not driven shows the level that is sampled next, if that comes before anything else on it, or is free.
 fn settle(d: Dump, line: usize, actions: &[u8], session: &[u8]) -> Dump {
     if d.is_driven(line) {
         return d;
     }
-    let level = ahead(d, line, actions, session, d.free);
-    d.set(line, level)
+    if is_sampled(actions, line) {
+        return d.set(line, next_level(d, session));
+    }
+    d.set(line, d.free)
 }
 
 // The same of every line, for the start of an event and, with no actions ahead, for its end.
@@ -57,65 +52,75 @@ fn settle_all(d: Dump, actions: &[u8], session: &[u8]) -> Dump {
     e
 }
 
-fn drive(d: Dump, line: usize, level: u8, text: &mut [u8]) -> Dump {
-    d.drive(line, true).set(line, level).go(1, text)
+fn drive(d: Dump, a: Action) -> Dump {
+    let line = a.line as usize;
+    let level = if a.verb == VERB_DRIVE_LOW { b'0' } else { b'1' };
+    d.drive(line, true).set(line, level)
 }
 
-fn release(d: Dump, line: usize, rest: &[u8], session: &[u8], text: &mut [u8]) -> Dump {
-    let e = d.drive(line, false);
-    settle(e, line, rest, session).go(1, text)
-}
-
-// The next sample is read.
-fn read(mut d: Dump) -> Dump {
-    d.sample = std::num::wrapping_add_usize(d.sample, 1);
-    d
-}
-
-// A line that is driven keeps its level where it is sampled; another keeps the level sampled unless there is another ahead.
-fn sample(d: Dump, line: usize, rest: &[u8], session: &[u8], text: &mut [u8]) -> Dump {
-    if d.is_driven(line) {
-        return read(d).go(1, text);
-    }
-    let level = next_level(d, session);
-    let e = read(d.set(line, level).go(1, text));
-    e.set(line, ahead(e, line, rest, session, level))
+fn release(d: Dump, a: Action, rest: &[u8], session: &[u8]) -> Dump {
+    let line = a.line as usize;
+    settle(d.drive(line, false), line, rest, session)
 }
 
 fn samples_free_line(d: Dump, a: Action) -> bool {
     (a.verb == VERB_SAMPLE_LINE) & !d.is_driven(a.line as usize)
 }
 
-// The end of a wait: a line that is sampled right after it shows that level near the sample only.
-fn wait_for(d: Dump, length: u64, next: Action, session: &[u8], text: &mut [u8]) -> Dump {
-    if length <= NEAR {
-        return d.go(length, text);
+// A line that is driven keeps its level where it is sampled.
+fn sample(d: Dump, a: Action, session: &[u8]) -> Dump {
+    if samples_free_line(d, a) {
+        return d.set(a.line as usize, next_level(d, session));
     }
-    if !samples_free_line(d, next) {
-        return d.go(length, text);
-    }
-    let e = d.go(length - NEAR, text);
-    e.set(next.line as usize, next_level(e, session))
-        .go(NEAR, text)
+    d
 }
 
-// A wait: a line that was sampled right before it shows that level near the sample only.
+// After a sample its line keeps the level, unless another sample of it is ahead.
+fn pass_sample(mut d: Dump, a: Action, rest: &[u8], session: &[u8]) -> Dump {
+    d.sample = std::num::wrapping_add_usize(d.sample, 1);
+    if is_sampled(rest, a.line as usize) {
+        return sample(d, a, session);
+    }
+    d
+}
+
+// How much of a wait shows the level of a sample right before or after it: only what is near, if the wait is long.
+fn near(d: Dump, length: u64, a: Action) -> u64
+    ensures { λ r. ⌜ r ≤ length ⌝ }
+{
+    if length <= NEAR {
+        return 0;
+    }
+    if samples_free_line(d, a) {
+        return NEAR;
+    }
+    0
+}
+
+// A line's level changes if a part of a wait is near its sample.
+fn set_near(d: Dump, part: u64, a: Action, level: u8) -> Dump {
+    if part == 0 {
+        return d;
+    }
+    d.set(a.line as usize, level)
+}
+
+// A wait between two actions of an event.
 fn wait(
     d: Dump,
     length: u64,
     before: Action,
-    next: Action,
+    after: Action,
     session: &[u8],
     text: &mut [u8],
 ) -> Dump {
-    if length <= NEAR {
-        return d.go(length, text);
-    }
-    if !samples_free_line(d, before) {
-        return wait_for(d, length, next, session, text);
-    }
-    let e = d.go(NEAR, text).set(before.line as usize, d.free);
-    wait_for(e, length - NEAR, next, session, text)
+    let first = near(d, length, before);
+    let rest = length - first;
+    let last = near(d, rest, after);
+    let middle = rest - last;
+    let e = set_near(d.go(first, text), first, before, d.free);
+    let f = set_near(e.go(middle, text), last, after, next_level(e, session));
+    f.go(last, text)
 }
 
 // The variable of a port's direction; that of its latch comes after it.
@@ -129,11 +134,28 @@ fn direction_of(port: u8) -> usize
     }
 }
 
-fn write_register(d: Dump, variable: usize, value: u16, text: &mut [u8]) -> Dump {
-    d.set(variable, (value % 256) as u8).go(1, text)
+fn write_register(d: Dump, a: Action) -> Dump {
+    let value = (a.value % 256) as u8;
+    let variable = direction_of(a.line);
+    if a.verb == VERB_LATCH {
+        return d.set(variable + 1, value);
+    }
+    d.set(variable, value)
 }
 
-// One action, with the one before it in the event and those that come after it.
+// What an action changes at its time, with the actions that come after it.
+fn act(d: Dump, a: Action, rest: &[u8], session: &[u8]) -> Dump {
+    let verb = a.verb;
+    match verb {
+        VERB_RELEASE => release(d, a, rest, session),
+        VERB_DRIVE_LOW | VERB_DRIVE_HIGH => drive(d, a),
+        VERB_SAMPLE_LINE => sample(d, a, session),
+        VERB_DIRECTION | VERB_LATCH => write_register(d, a),
+        _ => d,
+    }
+}
+
+// One action with its time, the action before it in the event and those that come after it.
 fn show_action(
     d: Dump,
     a: Action,
@@ -142,18 +164,14 @@ fn show_action(
     session: &[u8],
     text: &mut [u8],
 ) -> Dump {
-    let line = a.line as usize;
-    let verb = a.verb;
-    match verb {
-        VERB_RELEASE => release(d, line, rest, session, text),
-        VERB_DRIVE_LOW => drive(d, line, b'0', text),
-        VERB_DRIVE_HIGH => drive(d, line, b'1', text),
-        VERB_SAMPLE_LINE => sample(d, line, rest, session, text),
-        VERB_DIRECTION => write_register(d, direction_of(a.line), a.value, text),
-        VERB_LATCH => write_register(d, direction_of(a.line) + 1, a.value, text),
-        VERB_SAMPLE_PORT => read(d).go(1, text),
-        _ => wait(d, wait_of(a), before, action_at(rest, 0), session, text),
+    if is_wait(a) {
+        return wait(d, wait_of(a), before, action_at(rest, 0), session, text);
     }
+    let e = act(d, a, rest, session).go(1, text);
+    if is_sample(a) {
+        return pass_sample(e, a, rest, session);
+    }
+    e
 }
 
 // An event by its actions.

@@ -145,7 +145,17 @@ fn run_all(fd: i32) {
     say(run, differ);
 }
 
+fn to_go_on() -> bool {
+    input::goes_on(
+        b"usage: vectors FILE\nRuns the stored sessions in FILE and says how many transcripts differ from the stored ones.\n",
+        b"",
+    )
+}
+
 fn main() {
+    if !to_go_on() {
+        return;
+    }
     let mut name = io::buffer();
     let n = os::arg(1, &mut name);
     let fd = os::open_read(&name[..n]);

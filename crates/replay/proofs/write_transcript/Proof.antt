@@ -8,7 +8,7 @@ use Rattle.replay.proofs.write_transcript.Statement.{statement}
 use Rattle.replay.proofs.write_transcript.Tie as tie
 
 abbrev Inv-loop : tie.InvT-loop
-Inv-loop session out₀ cursor₀ out cursor = 65536 ≡ length out
+Inv-loop session out₀ cursor₀ out cursor = 16384 ≡ length out
 
 abbrev μ-loop : tie.MeasureT-loop
 μ-loop session out₀ cursor₀ out cursor = left session cursor
@@ -19,7 +19,6 @@ write-transcript-spec =
     (tie.spec
     Inv-loop
     μ-loop
-    (λ c κs. search needs)
     (λ c κs. search needs)
     (λ c. search needs)
     (λ c. search needs)

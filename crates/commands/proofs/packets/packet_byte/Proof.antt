@@ -1,7 +1,6 @@
 -- At the last byte the register is loaded, before it one more is held.
 use borrow.Author.Needs.{needs}
-use mathlib.Core.Path.{_∙_, ap}
-use mathlib.Core.Bool.{Bool}
+use mathlib.Core.Path.{_∙_}
 use borrow.Author.Tests.{eq-eqb, ne-eqb}
 use Rattle.registers.proofs.InRange.{most-left}
 use Rattle.commands.proofs.Choices.{chosen}

@@ -1,10 +1,11 @@
--- What the call answered is the turn: stopped, or the two records written.
+-- The event as it was measured is the turn: stopped, or the two records written.
 use borrow.Author.Needs.{needs}
+use borrow.Author.Tests.{not-true, not-false}
 use mathlib.Core.Path.{sym, _∙_}
 use native.Mathlib.Omega.{arith}
 use lib.ListN.{length-map}
 use Rattle.commands.specs.Promises.{Sized}
-use Rattle.session.proofs.Carried.{actions-few, replies-within, replies-taken, samples-few, replies-fit, turn-refused, turn-taken, same-size}
+use Rattle.session.proofs.Carried.{turn-refused, samples-few, actions-fit, says-size, replies-fit, turn-taken}
 use Rattle.session.proofs.events.carry_out.Statement.{statement}
 use Rattle.session.proofs.events.carry_out.Tie as tie
 
@@ -25,43 +26,33 @@ pub carry-out-spec : {M : Type 1} → statement M
 carry-out-spec =
     tie.close
     (tie.spec
-    (λ c. search needs)
+    (λ c κs. search needs)
+    (λ c κs. search needs)
     (λ c κs. search needs)
     (λ c. search needs)
-    (λ c κs. search needs)
-    (λ c. search needs)
-    (λ c κs.
-    let p = c .before .before .before .before .before .before in
-    let s = p .before .before .before .before .before .before in
-    actions-few (s .args .c) (s .args .event) (s .args .place) (s .args .samples .now) (s .args .out .now) (s .pre .0) (sized s) (s .pre .1) (p .step-in-range .result) _ _ (p .step-in-range .ensures) (c .before .enum-told2 .given .1))
     (λ c.
-    let p = c .before .before .before .before .before .before .before .before .before .before in
-    let s = p .before .before .before .before .before .before in
-    replies-within (s .args .c) (s .args .event) (s .args .place) (s .args .samples .now) (s .args .out .now) (s .pre .0) (sized s) (s .pre .1) (p .step-in-range .result) _ _ (p .step-in-range .ensures) (c .before .before .before .before .before .enum-told2 .given .1))
-    (λ c.
-    let p = c .before .before .before .before .before .before .before .before .before .before .before in
-    let s = p .before .before .before .before .before .before in
-    replies-taken (s .args .c) (s .args .event) (s .args .place) (s .args .samples .now) (s .args .out .now) (s .pre .0) (sized s) (s .pre .1) (p .step-in-range .result) _ _ (p .step-in-range .ensures) (c .before .before .before .before .before .before .enum-told2 .given .1))
+    let f = c .before .before .before .before .before in
+    let p = f .before in
+    let s = p .before .before .before .before in
+    turn-refused (s .args .c) (s .args .event) (s .args .place) (s .args .samples .now) (s .args .out .now) (s .pre .0) (sized s) (s .pre .1) (p .prepare .result) (p .prepare .ensures) (sym (f .fits2 .ensures) ∙ not-true _ (c .before .before .before .before .if1 .taken)) (c .before .before .stop .ensures))
     (λ c κs.
-    let p = c .before .before .before .before .before .before .before .before .before .before .before in
-    let s = p .before .before .before .before .before .before in
-    replies-fit (s .args .c) (s .args .event) (s .args .place) (s .args .samples .now) (s .args .out .now) (s .pre .0) (sized s) (s .pre .1) (p .step-in-range .result) _ _ (p .step-in-range .ensures) (c .before .before .before .before .before .before .enum-told2 .given .1) (c .before .before .before .before .put-actions-head .ensures))
+    let p = c .before .before .before .before .before in
+    let s = p .before .before .before .before in
+    (p .prepare .ensures .page-small, actions-fit (s .args .c) (s .args .event) (s .args .place) (s .args .samples .now) (s .args .out .now) (s .pre .0) (sized s) (s .pre .1) (p .prepare .result) (p .prepare .ensures)))
+    (λ c κs.
+    let p = c .before .before .before .before .before .before .before .before .before in
+    let s = p .before .before .before .before in
+    (p .prepare .ensures .state-small, says-size (s .args .c) (s .args .event) (s .args .place) (s .args .samples .now) (s .args .out .now) (s .pre .0) (sized s) (s .pre .1) (p .prepare .result) (p .prepare .ensures), replies-fit (s .args .c) (s .args .event) (s .args .place) (s .args .samples .now) (s .args .out .now) (s .pre .0) (sized s) (s .pre .1) (p .prepare .result) (p .prepare .ensures) (c .before .before .before .put-actions .ensures)))
     (λ c. search needs)
     (λ c.
-    let p = c .before .before .before .before .before .before .before .before .before .before .before .before .before .before .before .before .before in
-    let s = p .before .before .before .before .before .before in
-    let h = samples-few (s .args .c) (s .args .event) (s .args .place) (s .args .samples .now) (s .args .out .now) (s .pre .0) (sized s) (s .pre .1) (p .step-in-range .result) _ _ (p .step-in-range .ensures) (c .before .before .before .before .before .before .before .before .before .before .before .before .enum-told2 .given .1) in
+    let f = c .before .before .before .before .before .before .before .before .before .before .before .before .before in
+    let p = f .before in
+    let s = p .before .before .before .before in
+    let h = samples-few (s .args .c) (s .args .event) (s .args .place) (s .args .samples .now) (s .args .out .now) (s .pre .0) (sized s) (s .pre .1) (p .prepare .result) (p .prepare .ensures) (sym (f .fits2 .ensures) ∙ not-false _ (c .before .before .before .before .before .before .before .before .before .before .before .before .if1 .left)) in
     record { fits = omega (arith, h, s .pre .3) })
     (λ c. search needs)
     (λ c.
-    let p = c .before .before .before .before .before .before .before .before .before in
-    let s = p .before .before .before .before .before .before in
-    turn-refused (s .args .c) (s .args .event) (s .args .place) (s .args .samples .now) (s .args .out .now) (s .pre .0) (sized s) (s .pre .1) (p .step-in-range .result) _ _ (p .step-in-range .ensures) (c .before .before .before .before .enum-told .given .1) (c .before .before .stop .ensures))
-    (λ c.
-    let p = c .before .before .before .before .before .before .before .before .before .before .before .before .before .before .before .before .before in
-    let s = p .before .before .before .before .before .before in
-    same-size (s .args .c) (s .args .event) (s .args .place) (s .args .samples .now) (s .args .out .now) (s .pre .0) (sized s) (s .pre .1) (p .step-in-range .result) _ _ (p .step-in-range .ensures) (c .before .before .before .before .before .before .before .before .before .before .before .before .enum-told2 .given .1) (c .before .before .before .before .before .before .before .before .before .before .put-actions-head .ensures) (c .before .before .before .before .before .put-replies .ensures))
-    (λ c.
-    let p = c .before .before .before .before .before .before .before .before .before .before .before .before .before .before .before .before .before in
-    let s = p .before .before .before .before .before .before in
-    turn-taken (s .args .c) (s .args .event) (s .args .place) (s .args .samples .now) (s .args .out .now) (s .pre .0) (sized s) (s .pre .1) (p .step-in-range .result) _ _ (p .step-in-range .ensures) (c .before .before .before .before .before .before .before .before .before .before .before .before .enum-told2 .given .1) (c .before .before .before .before .before .before .before .before .before .before .put-actions-head .ensures) (c .before .before .before .before .before .put-replies .ensures)))
+    let f = c .before .before .before .before .before .before .before .before .before .before .before .before .before in
+    let p = f .before in
+    let s = p .before .before .before .before in
+    turn-taken (s .args .c) (s .args .event) (s .args .place) (s .args .samples .now) (s .args .out .now) (s .pre .0) (sized s) (s .pre .1) (p .prepare .result) (p .prepare .ensures) (c .before .before .before .before .before .before .before .before .put-actions .ensures) (c .before .before .before .before .put-replies .ensures) (sym (f .fits2 .ensures) ∙ not-false _ (c .before .before .before .before .before .before .before .before .before .before .before .before .if1 .left))))

@@ -1,10 +1,7 @@
 -- By what was found.
 use borrow.Author.Needs.{needs}
-use mathlib.Core.Path.{sym, ap, _∙_}
+use mathlib.Core.Path.{sym, _∙_}
 use native.Mathlib.Omega.{arith}
-use Prim.Native.Nat.{ℕ}
-use mathlib.Core.List.{List}
-use lib.ListN.{length}
 use Rattle.session.proofs.Steps.{turned-as, turned-none, place-fits, samples-fit}
 use Rattle.session.proofs.replay.step.Statement.{statement}
 use Rattle.session.proofs.replay.step.Tie as tie

@@ -1,0 +1,135 @@
+// The commands by name: which one a byte is, and the one whose operand is waited for.
+use crate::text::say;
+use crate::text::say_count;
+use names::ROWS;
+use registers::Event;
+use registers::Operand;
+use registers::PortRegister;
+use registers::Wait;
+
+// A name without its blanks.
+fn say_padded(name: &[u8]) {
+    let n = bytes::scan::find(name, 0, name.len(), b' ');
+    say(&name[..n]);
+}
+
+fn say_name(row: usize) {
+    let name = names::name(row);
+    say_padded(&name);
+}
+
+fn setup_code(r: PortRegister) -> u8 {
+    match r {
+        PortRegister::Ddrb => 0x0B,
+        PortRegister::Portb => 0x0D,
+        PortRegister::Ddrc => 0x0F,
+        PortRegister::Portc => 0x11,
+        PortRegister::Ddrd => 0x13,
+        PortRegister::Portd => 0x15,
+    }
+}
+
+// The row of the command whose operand it is.
+fn operand_row(o: Operand) -> usize {
+    match o {
+        Operand::ToPort(r) => names::find(setup_code(r), false),
+        Operand::ToCycles => names::find(0x0E, true),
+        Operand::ToI2c => names::find(0x22, false),
+        Operand::ToConfig => names::find(0x40, false),
+        Operand::ToSize => names::find(0x42, false),
+        Operand::ToWire => names::find(0x61, false),
+        Operand::ToWireBit => names::find(0x63, false),
+        Operand::ToWireStrong => names::find(0x67, false),
+    }
+}
+
+fn say_operand(o: Operand) {
+    say(b"operand of ");
+    say_name(operand_row(o));
+}
+
+// Whether the interface of a row's command is selected; a common or extended one needs none.
+pub(crate) fn selected(row: usize, flags: u8) -> bool {
+    let code = names::code(row);
+    if names::extended(row) | (code < 0x20) {
+        return true;
+    }
+    if code < 0x40 {
+        return flags % 2 == 1;
+    }
+    if code < 0x60 {
+        return flags / 2 % 2 == 1;
+    }
+    flags / 4 % 2 == 1
+}
+
+// The row of the command that a byte is where nothing or an extended byte is waited for; ROWS where it is none.
+fn byte_row(w: Wait, byte: u8) -> usize {
+    match w {
+        Wait::Nothing => names::find(byte, false),
+        Wait::One(_) => ROWS,
+        Wait::Extended => names::find(byte, true),
+        Wait::Packet {
+            left: _,
+            exchange: _,
+        } => ROWS,
+        Wait::Timings { left: _ } => ROWS,
+    }
+}
+
+pub(crate) fn event_row(w: Wait, e: Event) -> usize {
+    match e {
+        Event::Byte(byte) => byte_row(w, byte),
+        Event::Fault(_) => ROWS,
+    }
+}
+
+fn say_command(row: usize, flags: u8) {
+    if row == ROWS {
+        say(b"unknown");
+        return;
+    }
+    say_name(row);
+    if !selected(row, flags) {
+        say(b" without its interface");
+    }
+}
+
+// What a byte is to a bridge that waits for this.
+pub(crate) fn say_byte(w: Wait, byte: u8, flags: u8) {
+    match w {
+        Wait::Nothing => say_command(names::find(byte, false), flags),
+        Wait::One(o) => say_operand(o),
+        Wait::Extended => say_command(names::find(byte, true), flags),
+        Wait::Packet {
+            left: _,
+            exchange: _,
+        } => say(b"packet byte"),
+        Wait::Timings { left: _ } => say(b"timing byte"),
+    }
+}
+
+fn say_packet(left: u8, exchange: bool) {
+    say(b"waits for ");
+    say_count(left as usize, b" packet byte");
+    if exchange {
+        say(b", then exchanges");
+    }
+}
+
+// What is waited for, `idle` if nothing.
+pub(crate) fn say_wait(w: Wait) {
+    match w {
+        Wait::Nothing => say(b"idle"),
+        Wait::One(o) => {
+            say(b"waits for the ");
+            say_operand(o);
+        }
+        Wait::Extended => say(b"waits for an extended command"),
+        Wait::Packet { left, exchange } => say_packet(left, exchange),
+        Wait::Timings { left } => {
+            say(b"waits for ");
+            say_count(left as usize, b" timing byte");
+        }
+    }
+}

@@ -1,0 +1,17 @@
+// Numbers of two bytes.
+ghost use Prim.Native.Nat.{_<_};
+use std::num::wrapping_add_usize;
+
+fn joined(low: u8, high: u8) -> usize
+    ensures { λ n. ⌜ n < 65536 ⌝ }
+{
+    low as usize + 256 * (high as usize)
+}
+
+// 16 bits at a place, low byte first; a byte past the end counts 0.
+pub(crate) fn word(bytes: &[u8], at: usize) -> usize
+    ensures { λ n. ⌜ n < 65536 ⌝ }
+{
+    let next = wrapping_add_usize(at, 1);
+    joined(wire::byte_at(bytes, at), wire::byte_at(bytes, next))
+}

@@ -1,0 +1,165 @@
+// The walk through a session, a step of the replay at a time.
+ghost use mathlib.Core.Path.{_≡_};
+ghost use mathlib.Core.Bool.{false};
+ghost use Prim.Native.Nat.{_<_, _≤_};
+ghost use lib.ListN.{length};
+ghost use Rattle.session.specs.Runs.{mostOutput, left};
+use crate::commands::say_wait;
+use crate::events::codes_of;
+use crate::events::say_head;
+use crate::events::say_left;
+use crate::output::ACTIONS;
+use crate::output::Part;
+use crate::output::REPLIES;
+use crate::output::refusal_in;
+use crate::output::say_part;
+use crate::refused::Refused;
+use crate::refused::say_number_and_place;
+use crate::refused::say_refusal;
+use crate::text::finish;
+use crate::text::say;
+use crate::text::say_count;
+use records::found::Found;
+use registers::Event;
+use registers::Wait;
+use session::replay::Cursor;
+use session::replay::MOST_OUTPUT;
+use std::num::wrapping_add_usize;
+
+// How much has been shown.
+struct Shown {
+    events: usize,
+    replies: usize,
+    actions: usize,
+}
+
+// Where the walk stands.
+struct Walked {
+    cursor: Cursor,
+    shown: Shown,
+}
+
+// The bytes of a part if it is of a kind.
+fn bytes_of(p: Part, kind: usize) -> usize {
+    if p.kind == kind { p.size } else { 0 }
+}
+
+// One event more, with its parts.
+fn count(t: Shown, first: Part, second: Part) -> Shown {
+    let actions = bytes_of(first, ACTIONS) / wire::ACTION_BYTES;
+    let replies = wrapping_add_usize(bytes_of(first, REPLIES), bytes_of(second, REPLIES));
+    Shown {
+        events: wrapping_add_usize(t.events, 1),
+        replies: wrapping_add_usize(t.replies, replies),
+        actions: wrapping_add_usize(t.actions, actions),
+    }
+}
+
+// The front of the summary.
+fn say_shown(t: Shown) {
+    say_count(t.events, b" event");
+    say(b", ");
+    say_count(t.replies, b" reply byte");
+    say(b", ");
+    say_count(t.actions, b" action");
+    say(b"; ");
+}
+
+fn say_end(t: Shown, w: Wait) {
+    say_shown(t);
+    say_wait(w);
+    finish();
+}
+
+// An event that the bridge took, from a cursor to the next.
+fn show_event(
+    color: bool,
+    e: Event,
+    place: usize,
+    c: Cursor,
+    next: Cursor,
+    session: &[u8],
+    out: &[u8],
+    t: Shown,
+) -> Shown {
+    let s = c.bridge.state;
+    say_head(color, place, s, e);
+    let codes = codes_of(s, e);
+    let first = say_part(color, out, 0, session, c.sample, codes);
+    let second = say_part(color, out, first.end, session, c.sample, codes);
+    let after = next.bridge.state;
+    say_left(color, after);
+    count(t, first, second)
+}
+
+// The event that too few samples are left for.
+fn show_untaken(color: bool, c: Cursor, session: &[u8]) {
+    let found = records::found::find(session, c.at, c.end);
+    let s = c.bridge.state;
+    if let Found::Event { event, place } = found {
+        say_head(color, place, s, event);
+        say(b"\n    ");
+    }
+}
+
+fn show_refusal(color: bool, r: Refused, c: Cursor, session: &[u8], t: Shown) {
+    if r.number == 2 {
+        show_untaken(color, c, session);
+    }
+    say_refusal(color, r);
+    say_shown(t);
+    say_number_and_place(r);
+    finish();
+}
+
+// What a step from a cursor to the next wrote.
+fn show_step(color: bool, c: Cursor, next: Cursor, session: &[u8], out: &[u8], t: Shown) -> Shown {
+    let r = refusal_in(out);
+    if r.number != 0 {
+        show_refusal(color, r, c, session, t);
+        return t;
+    }
+    let found = records::found::find(session, c.at, c.end);
+    let s = c.bridge.state;
+    let w = s.wait;
+    match found {
+        Found::Event { event, place } => show_event(color, event, place, c, next, session, out, t),
+        Found::Bytes { start: _, end: _ } => t,
+        Found::Samples { start: _, end: _ } => t,
+        Found::End => {
+            say_end(t, w);
+            t
+        }
+        Found::Refused { why: _, place: _ } => t,
+    }
+}
+
+// One step of the replay, shown. The caller shows room for it.
+fn step(color: bool, from: Walked, session: &[u8], out: &mut [u8]) -> Walked
+    requires { ⌜ mostOutput ≤ length (now out) ⌝ }
+    ensures { λ r. ⌜ (from .cursor .done ≡ false → left (now (session .entry)) (r .cursor) < left (now (session .entry)) (from .cursor)) ⌝ }
+{
+    let c = from.cursor;
+    let t = from.shown;
+    let r = session::replay::advance(c, session, out);
+    let n = r.written;
+    let cursor = r.cursor;
+    let shown = show_step(color, c, cursor, session, &out[..n], t);
+    Walked { cursor, shown }
+}
+
+// The whole session.
+pub(crate) fn show(color: bool, session: &[u8]) {
+    let mut out = [0u8; MOST_OUTPUT];
+    let cursor = session::replay::start();
+    let shown = Shown {
+        events: 0,
+        replies: 0,
+        actions: 0,
+    };
+    let mut w = Walked { cursor, shown };
+    while !w.cursor.done {
+        let next = step(color, w, session, &mut out);
+        w = next;
+    }
+}
