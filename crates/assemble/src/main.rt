@@ -3,7 +3,6 @@
 use input::Input;
 use libc::STDERR_FILENO;
 use libc::STDOUT_FILENO;
-use script::Expected;
 use script::Stop;
 
 fn to_go_on() -> bool {
@@ -11,43 +10,6 @@ fn to_go_on() -> bool {
         b"usage: assemble [FILE]\nWrites the script in FILE, or in standard input, as a session to standard output.\n",
         b"",
     )
-}
-
-fn say(text: &[u8]) {
-    io::write_all(STDERR_FILENO, text);
-}
-
-fn say_operands(n: u8) {
-    match n {
-        0 => say(b"no operand"),
-        1 => say(b"one operand"),
-        9 => say(b"nine operands"),
-        _ => say(b"one to eight operands"),
-    }
-}
-
-fn say_expected(e: Expected) {
-    match e {
-        Expected::Statement => say(b"send, samples, fault or a command's name"),
-        Expected::Byte => say(b"a byte in two hex digits"),
-        Expected::Count => say(b"a count from 1 to 99999"),
-        Expected::Fault => say(b"frame, overrun or parity"),
-        Expected::LineEnd => say(b"the line's end"),
-        Expected::Operands(n) => say_operands(n),
-        Expected::Room => say(b"no more than 32,768 bytes in all"),
-    }
-}
-
-// Says where a script is wrong and what was expected there.
-fn complain(text: &[u8], place: usize, expected: Expected) {
-    let p = script::place::position(text, place);
-    say(b"line ");
-    io::print_decimal(STDERR_FILENO, p.line as u64);
-    say(b", column ");
-    io::print_decimal(STDERR_FILENO, p.column as u64);
-    say(b": expected ");
-    say_expected(expected);
-    say(b"\n");
 }
 
 fn write(text: &[u8]) {
@@ -61,7 +23,7 @@ fn write(text: &[u8]) {
                 os::fail(b"standard output");
             }
         }
-        Stop::Wrong { place, expected } => complain(text, place, expected),
+        Stop::Wrong { place, expected } => explain::explain(STDERR_FILENO, text, place, expected),
     }
 }
 
@@ -75,7 +37,7 @@ fn main() {
         return;
     };
     if n == text.len() {
-        say(b"assemble: more than 262,143 bytes\n");
+        io::write_all(STDERR_FILENO, b"assemble: more than 262,143 bytes\n");
         return;
     }
     write(&text[..n]);

@@ -1,0 +1,40 @@
+// What is wrong with a script, in words, on a descriptor that the caller names. No contract here says what is written: a call to
+// the system has none that could say it. The program `scripts` compares it.
+use script::Expected;
+
+fn say(fd: i32, text: &[u8]) {
+    io::write_all(fd, text);
+}
+
+fn say_operands(fd: i32, n: u8) {
+    match n {
+        0 => say(fd, b"no operand"),
+        1 => say(fd, b"one operand"),
+        9 => say(fd, b"nine operands"),
+        _ => say(fd, b"one to eight operands"),
+    }
+}
+
+fn say_expected(fd: i32, e: Expected) {
+    match e {
+        Expected::Statement => say(fd, b"send, samples, fault or a command's name"),
+        Expected::Byte => say(fd, b"a byte in two hex digits"),
+        Expected::Count => say(fd, b"a count from 1 to 99999"),
+        Expected::Fault => say(fd, b"frame, overrun or parity"),
+        Expected::LineEnd => say(fd, b"the line's end"),
+        Expected::Operands(n) => say_operands(fd, n),
+        Expected::Room => say(fd, b"no more than 32,768 bytes in all"),
+    }
+}
+
+// Says in a line where a script is wrong and what was expected there.
+pub fn explain(fd: i32, text: &[u8], place: usize, expected: Expected) {
+    let p = script::place::position(text, place);
+    say(fd, b"line ");
+    io::print_decimal(fd, p.line as u64);
+    say(fd, b", column ");
+    io::print_decimal(fd, p.column as u64);
+    say(fd, b": expected ");
+    say_expected(fd, expected);
+    say(fd, b"\n");
+}
