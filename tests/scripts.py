@@ -1,5 +1,5 @@
 #!/usr/bin/env python3
-"""Scripts and what they make, by an assembler of its own, written from the description of the format alone.
+"""Scripts and what they make, by a second assembler that follows the description of the format.
 
 python3 scripts.py DATA LINES writes the stored scripts of the program `scripts`, each as its length (16 bits,
 little-endian) and its text, and the lines that the program must write. python3 scripts.py --program PROGRAM
