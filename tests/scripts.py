@@ -1,5 +1,5 @@
 #!/usr/bin/env python3
-"""Scripts and what they make, by an assembler of its own, written from the description of the format alone.
+"""Scripts and what they make, by a second assembler that follows the description of the format.
 
 python3 scripts.py DATA LINES writes the stored scripts of the program `scripts`, each as its length (16 bits,
 little-endian) and its text, and the lines that the program must write. python3 scripts.py --program PROGRAM
@@ -144,29 +144,34 @@ def every_command():
     yield from (b"send 01\n " + name + b"\n" for name in NO_COMMANDS)
 
 GOOD = r"""
-|\n|\n\n\n| |\t\r \r\n|# a comment|#|##\n#\n|  # a comment\n\n|send 00|send 00\n|send 00 01 fF Aa|send\t0A\r\n|\r\nsend  0a  \t 0B \r\n
-|samples 00|samples 00 x 64|samples 00 x 1 01 x 2 FF x 3|send 5A x 1|send 5A x 99 00|send 5A x 00000000000000000003|send 5A x 4096
-|send 5A x 4097|send 5A x 4095 01|send 5A x 4096 01|samples 5A x 8192|samples 5A x 8193|send 5A x 32736|samples 5A x 20000 A5 x 12736
-|fault frame|fault overrun\n|\tfault\tparity\t\r\n|fault frame#x|fault frame # x|send 00#x|send 00 # FF|send 00 #\x00\xff\xc3\xa4\n
-|ReadError|ReadError#|ReadError # 00|LoadPaket_SPI 00 x 8|LoadTimes_1W 01 x 9|SendByte_I2C 01 x 1|SendByte_I2C A0 x 001
+|\n|\n\n\n| |\t\r \r\n|# a comment|#|##\n#\n|  # a comment\n\n|send 00|send 00\n|send 00 01 fF Aa|send\t0A\r\n
+|\r\nsend  0a  \t 0B \r\n|samples 00|samples 00 x 64|samples 00 x 1 01 x 2 FF x 3|send 5A x 1|send 5A x 99 00
+|send 5A x 00000000000000000003|send 5A x 4096|send 5A x 4097|send 5A x 4095 01|send 5A x 4096 01|samples 5A x 8192
+|samples 5A x 8193|send 5A x 32736|samples 5A x 20000 A5 x 12736|fault frame|fault overrun\n|\tfault\tparity\t\r\n
+|fault frame#x|fault frame # x|send 00#x|send 00 # FF|send 00 #\x00\xff\xc3\xa4\n|ReadError|ReadError#|ReadError # 00
+|LoadPaket_SPI 00 x 8|LoadTimes_1W 01 x 9|SendByte_I2C 01 x 1|SendByte_I2C A0 x 001
 |fault frame\nfault overrun\nfault parity\n|send 00 x 28672\nsend 00 x 4064|send 00 x 28672\nsend 00 x 4059\nReadError
 |send 00 x 28672\nsend 00 x 4060\n\n# full\n|samples 01\nsend 22 A0\n\n  # none\n SendStop_I2C"""
 
 WRONG = r"""
-|send|send |send  \t \n|samples|samples \r\n|\n\nsend # 00|samples#00|send#\n|send\n00|send 0|send 000|send 0g|send G0|send 00 1|send 00  1 01|send x
-|send x 2|send 00 x|send 00 x |send 00 x\t# 2|send 00 x#2|send 00 x 0|send 00 x 00000|send 00 x 100000|send 00 x 099999 x|send 00 x 1a
-|send 00 x -1|send 00 x +1|send 00 x 1.0|send 00 x x|send 00 x 2 x 2|send 00 X 2|send 00x2|send 00 x2|send 00 x 9999999999999999999999
-|send 00 x 0x2|send 00 x 99999|send 00 x 099999|send 00 x 32769|samples  00  x  32769|send 00 x 32768|send 00 x 32737|send 00 x 32767 01 02
-|send 00 x 32768  01|send 00 x 32768\t 01 # y|\n  send 00 x 32737|# y\n\tsend 00 x 32768 00|send 00 x 99999 zz|send zz 00 x 99999
-|send 00 x 40000 x|send 00 x 32768 00 x 0|send 00 x 32768 zz|fault|fault |fault\t# frame|fault#frame|fault Frame|fault frames|fault fram
-|fault frame frame|fault  parity  00|fault overrun x|fault 81|fault frame\nfault none|Send 00|SEND 00|sends 00|send: 00|sample 00|faults frame
-|00|x|\xff|\x00|send \xff|send \x00\x00|send 00 \xc3\xa4|\xc3\xa4 00|send 00\x0b01|send 00\x0c|send\xa000|  nothing|\n\n\n   \tnothing # here
-|readerror|ReadErro|ReadErrors|READERROR|IntefaceChoiceSPI|GiveWR250NegPulse_HVAVR_|GiveWR250NegPulse_HVAVRGiveWR250NegPulse_HVAVR
-|ReadError 00|ReadError x|ReadError 00 x|ReadError zz|SendByte_I2C|SendByte_I2C A0 A1|SendByte_I2C A0 x 2|SendByte_I2C x|SendByte_I2C A0 x
-|SendByte_I2C A|SendByte_I2C A0 x 32767|SendByte_I2C A0 x 32768|LoadIOGTime A0 x 32766|LoadIOGTime A0 x 32767|  LoadIOGTime  A0  B0 x 32766
-|LoadPaket_SPI|LoadPaket_SPI 00 x 9|FastSendPaket_SPI 00 x 4 01 x 5|LoadTimes_1W 00 x 8|LoadTimes_1W 00 x 10|LoadTimes_1W|DoExtendedCommand
-|send 00 x 28672\nsend 00 x 4065|send 00 x 28672\nsend 00 x 4060\n\tReadError|send 00 x 28672\nsend 00 x 4060\nfault frame
-|samples 00 x 32736\n  fault none|samples 00 x 32000\n \n  samples 00 x 733 # y|send 00 x 30000\nsend 00 x 30000\nnothing|send 00\nsend 0\nsend"""
+|send|send |send  \t \n|samples|samples \r\n|\n\nsend # 00|samples#00|send#\n|send\n00|send 0|send 000|send 0g|send G0
+|send 00 1|send 00  1 01|send x|send x 2|send 00 x|send 00 x |send 00 x\t# 2|send 00 x#2|send 00 x 0|send 00 x 00000
+|send 00 x 100000|send 00 x 099999 x|send 00 x 1a|send 00 x -1|send 00 x +1|send 00 x 1.0|send 00 x x|send 00 x 2 x 2
+|send 00 X 2|send 00x2|send 00 x2|send 00 x 9999999999999999999999|send 00 x 0x2|send 00 x 99999|send 00 x 099999
+|send 00 x 32769|samples  00  x  32769|send 00 x 32768|send 00 x 32737|send 00 x 32767 01 02|send 00 x 32768  01
+|send 00 x 32768\t 01 # y|\n  send 00 x 32737|# y\n\tsend 00 x 32768 00|send 00 x 99999 zz|send zz 00 x 99999
+|send 00 x 40000 x|send 00 x 32768 00 x 0|send 00 x 32768 zz|fault|fault |fault\t# frame|fault#frame|fault Frame
+|fault frames|fault fram|fault frame frame|fault  parity  00|fault overrun x|fault 81|fault frame\nfault none|Send 00
+|SEND 00|sends 00|send: 00|sample 00|faults frame|00|x|\xff|\x00|send \xff|send \x00\x00|send 00 \xc3\xa4|\xc3\xa4 00
+|send 00\x0b01|send 00\x0c|send\xa000|  nothing|\n\n\n   \tnothing # here|readerror|ReadErro|ReadErrors|READERROR
+|IntefaceChoiceSPI|GiveWR250NegPulse_HVAVR_|GiveWR250NegPulse_HVAVRGiveWR250NegPulse_HVAVR|ReadError 00|ReadError x
+|ReadError 00 x|ReadError zz|SendByte_I2C|SendByte_I2C A0 A1|SendByte_I2C A0 x 2|SendByte_I2C x|SendByte_I2C A0 x
+|SendByte_I2C A|SendByte_I2C A0 x 32767|SendByte_I2C A0 x 32768|LoadIOGTime A0 x 32766|LoadIOGTime A0 x 32767
+|  LoadIOGTime  A0  B0 x 32766|LoadPaket_SPI|LoadPaket_SPI 00 x 9|FastSendPaket_SPI 00 x 4 01 x 5|LoadTimes_1W 00 x 8
+|LoadTimes_1W 00 x 10|LoadTimes_1W|DoExtendedCommand|send 00 x 28672\nsend 00 x 4065
+|send 00 x 28672\nsend 00 x 4060\n\tReadError|send 00 x 28672\nsend 00 x 4060\nfault frame
+|samples 00 x 32736\n  fault none|samples 00 x 32000\n \n  samples 00 x 733 # y
+|send 00 x 30000\nsend 00 x 30000\nnothing|send 00\nsend 0\nsend"""
 
 def by_hand():
     for words, good in ((GOOD, True), (WRONG, False)):
@@ -184,8 +189,8 @@ def long_lists():               # written out
 # ---- random scripts, and some of them with a flaw ----
 
 BLANKS = (b" ", b" ", b" ", b"  ", b"\t", b" \t ", b"\r ")
-ODD = (b"x", b"X", b"0", b"000", b"0g", b"send", b"frame", b"parity", b"100000", b"\xc3\xa4", b"\x00", b"-1", b"#", b"# y", b"x 0", b"1 x 2",
-       *NO_COMMANDS)
+ODD = (b"x", b"X", b"0", b"000", b"0g", b"send", b"frame", b"parity", b"100000", b"\xc3\xa4", b"\x00", b"-1", b"#", b"# y",
+       b"x 0", b"1 x 2", *NO_COMMANDS)
 COUNTS = ("1", "2", "3", "007", "8", "9", "64", "255", "4095", "4096", "4097", "9999", "10000", "32736", "32768", "32769", "99999")
 
 def random_list(rng, count):
