@@ -14,7 +14,7 @@ import sys
 import tempfile
 
 from expected import wanted
-from scripts import spi_scripts
+from exchanges import spi_scripts
 
 ROOT = pathlib.Path(__file__).resolve().parents[2]
 STORED = sorted((ROOT / "tests/waves").glob("*.script")) + sorted((ROOT / "examples").glob("*.script"))
