@@ -8,122 +8,12 @@ little-endian) and its text, and the lines that the program must write. python3 
 import collections
 import pathlib
 import random
-import re
 import struct
 import subprocess
 import sys
 
-LONGEST_BODY, LONGEST_SESSION = 4096, 32768
-BYTES, FAULT, SAMPLES = 1, 2, 3
-FAULTS = {b"frame": 0x81, b"overrun": 0x82, b"parity": 0x83}
-
-# ---- the commands of the list 001, sections 2.1 to 2.2.3, from their first code on ----
-
-COMMON = """ResetDevice InterfaceChoiceI2C InterfaceChoiceSPI InterfaceChoice1W ReadError SaveToEPROM ReadFromEPROM EnableReports
-    DisableReports EnableAutoLoad DisableAutoLoad DDRBSetup DDRBRead PORTBSetup PORTBRead DDRCSetup DDRCRead PORTCSetup PORTCRead
-    DDRDSetup DDRDRead PORTDSetup PORTDRead PINBRead PINCRead PINDRead ReadCommonConfig ReadVersion SetIOG DoExtendedCommand
-    ReadSerialNumber"""
-EXTENDED = """EnterProgMode_HVAVR GivePagelPosPulse_HVAVR GiveXTALPosPulse_HVAVR GiveWRNegPulse_HVAVR ExecuteVppFirstAlg_PIC
-    ExecuteVddFirstAlg_PIC ExecuteVppLastAlg_PIC ExecuteVddLastAlg_PIC GiveWR250NegPulse_HVAVR GiveWR20NegPulse_HVAVR SetPort_PG
-    ClearPort_PG SetDDR_PG ClearDDR_PG LoadIOGTime ReadIOGTime"""
-I2C = "SendStart_I2C SendStop_I2C SendByte_I2C ReadByteA_I2C ReadByte_I2C ClearCS_I2C SetCS_I2C ReadCS_I2C"
-SPI = """LoadConfig_SPI ReadConfig_SPI LoadPaketSize_SPI ReadPaketSize_SPI LoadPaket_SPI ReadPaket_SPI StartChange_SPI ClearSS_SPI
-    SetSS_SPI ReadSS_SPI ReadSignPaket_SPI FastReadPaket_SPI FastSendPaket_SPI"""
-ONE_WIRE = """SendReset_1W SendByte_1W ReadByte_1W SendBit_1W ReadBit_1W LoadTimes_1W ReadTimes_1W SendByteSTRPU_1W ClearSTRPU_1W
-    Get580usPulse_1W Get110msPulse_1W"""
-LEFT_OUT = (0x00, 0x04, 0x05, 0x06, 0x07)       # of the extended ones
-ONE = {0x0B, 0x0D, 0x0F, 0x11, 0x13, 0x15, 0x1D, 0x22, 0x40, 0x42, 0x61, 0x63, 0x67}
-
-def operands(code):             # the numbers of operands that a command takes
-    return range(1, 9) if code in (0x44, 0x4C) else (9,) if code == 0x65 else (1,) if code in ONE else (0,)
-
-COMMANDS, NO_COMMANDS = {}, []
-for names, first in ((COMMON, 0x00), (I2C, 0x20), (SPI, 0x40), (ONE_WIRE, 0x60)):
-    for code, name in enumerate(names.split(), first):
-        COMMANDS[name.encode()] = bytes([code]), operands(code)
-for code, name in enumerate(EXTENDED.split()):
-    if code in LEFT_OUT:
-        NO_COMMANDS.append(name.encode())
-    else:
-        COMMANDS[name.encode()] = bytes([0x1D, code]), (1,) if name == "LoadIOGTime" else (0,)
-
-# ---- the assembler ----
-
-STATEMENT = "send, samples, fault or a command's name"
-BYTE = "a byte in two hex digits"
-COUNT = "a count from 1 to 99999"
-FAULT_NAME = "frame, overrun or parity"
-LINE_END = "the line's end"
-ROOM = "no more than 32,768 bytes in all"
-OPERANDS = {0: "no operand", 1: "one operand", 8: "one to eight operands", 9: "nine operands"}
-
-Word = collections.namedtuple("Word", "text start end")
-
-class Wrong(Exception):
-    def __init__(self, column, expected):       # a column from 0, and what was expected there
-        super().__init__(column, expected)
-        self.column, self.expected = column, expected
-
-def list_of(words, before, end, room):          # the bytes of a list behind a word, in a line whose text ends at a place
-    out, k = b"", 0
-    while k < len(words):
-        item, count = words[k], 1
-        if not re.fullmatch(rb"[0-9A-Fa-f]{2}", item.text):
-            raise Wrong(item.start, BYTE)
-        last = item
-        if k + 1 < len(words) and words[k + 1].text == b"x":
-            if k + 2 == len(words):
-                raise Wrong(end, COUNT)
-            last = words[k + 2]
-            if not re.fullmatch(rb"0*[1-9][0-9]{0,4}", last.text):
-                raise Wrong(last.start, COUNT)
-            count, k = int(last.text), k + 2
-        if len(out) + count > room:
-            raise Wrong(before, ROOM)
-        out += bytes([int(item.text, 16)]) * count
-        before, k = last.end, k + 1
-    return out
-
-def statement(line):            # the kind and the bytes of a line's statement, or none
-    text = line.split(b"#")[0]
-    words = [Word(m.group(), m.start(), m.end()) for m in re.finditer(rb"[^ \t\r]+", text)]
-    if not words:
-        return None
-    first, rest = words[0], words[1:]
-    if first.text in (b"send", b"samples"):
-        body = list_of(rest, first.end, len(text), LONGEST_SESSION)
-        if not body:
-            raise Wrong(first.end, BYTE)
-        return BYTES if first.text == b"send" else SAMPLES, body
-    if first.text == b"fault":
-        if not rest or rest[0].text not in FAULTS:
-            raise Wrong(rest[0].start if rest else len(text), FAULT_NAME)
-        if rest[1:]:
-            raise Wrong(rest[1].start, LINE_END)
-        return FAULT, bytes([FAULTS[rest[0].text]])
-    if first.text not in COMMANDS:
-        raise Wrong(first.start, STATEMENT)
-    opening, numbers = COMMANDS[first.text]
-    given = list_of(rest, first.end, len(text), LONGEST_SESSION - len(opening))
-    if len(given) not in numbers:
-        raise Wrong(first.start, OPERANDS[max(numbers)])
-    return BYTES, opening + given
-
-def assembled(text):            # the session, and the line that says what is wrong
-    out = b""
-    for number, line in enumerate(text.split(b"\n"), 1):
-        try:
-            said = statement(line)
-            if said:
-                kind, body = said
-                for place in range(0, len(body), LONGEST_BODY):
-                    part = body[place:place + LONGEST_BODY]
-                    out += struct.pack("<HH", len(part), kind) + part
-                if len(out) > LONGEST_SESSION:
-                    raise Wrong(0, ROOM)
-        except Wrong as wrong:
-            return b"", f"line {number}, column {wrong.column + 1}: expected {wrong.expected}\n".encode()
-    return out, b""
+from assembler import (BYTE, COMMANDS, COUNT, FAULT_NAME, FAULTS, LINE_END, NO_COMMANDS, ROOM, STATEMENT, Stream, Wrong, assembled,
+                       operands_said, statement, takes)
 
 def line_of(text):              # what the program `scripts` writes
     session, wrong = assembled(text)
@@ -135,13 +25,23 @@ def listed(count, first=0xA1):
     return b" ".join(b"%02X" % ((first + 7 * k) % 256) for k in range(count))
 
 def every_command():
-    for name, (_, numbers) in COMMANDS.items():
-        yield from (name + b" " + listed(count) + b"\n" for count in numbers)
-        yield b"\n  " + name + b"\t" + listed(max(numbers) + 1)
-        if min(numbers):
-            yield b"send 00\n\t" + name + b" # " + listed(min(numbers))
-    yield b"\n".join(name + b" " + listed(max(numbers)) for name, (_, numbers) in COMMANDS.items())
+    for name in COMMANDS:
+        count = takes(name, Stream())
+        yield name + b" " + listed(count) + b"\n"
+        yield b"\n  " + name + b"\t" + listed(count + 1)
+        if count:
+            yield b"send 00\n\t" + name + b" # " + listed(count)
+    yield b"\n".join(name + b" " + listed(takes(name, Stream())) for name in COMMANDS if name != b"LoadPaketSize_SPI")
     yield from (b"send 01\n " + name + b"\n" for name in NO_COMMANDS)
+
+SIZES = (b"InterfaceChoiceSPI\nLoadPaketSize_SPI %02X\n", b"send 02 40 04 42 %02X\n", b"send 02 42\nfault frame\nsend %02X\n",
+         b"send 02\nsend FF 42 %02X 22\n")
+
+def packets():                  # of many sizes, with an operand less, as many as they take, and one more
+    for size in range(0, 256, 5):
+        right = (size + 63) % 64 // 8 + 1
+        for count in (right - 1, right, right + 1):
+            yield SIZES[size % 4] % size + (b"LoadPaket_SPI ", b"FastSendPaket_SPI ")[size % 2] + listed(count) + b"\n"
 
 GOOD = r"""
 |\n|\n\n\n| |\t\r \r\n|# a comment|#|##\n#\n|  # a comment\n\n|send 00|send 00\n|send 00 01 fF Aa|send\t0A\r\n
@@ -149,9 +49,12 @@ GOOD = r"""
 |send 5A x 00000000000000000003|send 5A x 4096|send 5A x 4097|send 5A x 4095 01|send 5A x 4096 01|samples 5A x 8192
 |samples 5A x 8193|send 5A x 32736|samples 5A x 20000 A5 x 12736|fault frame|fault overrun\n|\tfault\tparity\t\r\n
 |fault frame#x|fault frame # x|send 00#x|send 00 # FF|send 00 #\x00\xff\xc3\xa4\n|ReadError|ReadError#|ReadError # 00
-|LoadPaket_SPI 00 x 8|LoadTimes_1W 01 x 9|SendByte_I2C 01 x 1|SendByte_I2C A0 x 001
+|send 02 42 00\nLoadPaket_SPI 00 x 8|LoadTimes_1W 01 x 9|SendByte_I2C 01 x 1|SendByte_I2C A0 x 001
 |fault frame\nfault overrun\nfault parity\n|send 00 x 28672\nsend 00 x 4064|send 00 x 28672\nsend 00 x 4059\nReadError
-|send 00 x 28672\nsend 00 x 4060\n\n# full\n|samples 01\nsend 22 A0\n\n  # none\n SendStop_I2C"""
+|send 00 x 28672\nsend 00 x 4060\n\n# full\n|samples 01\nsend 22 A0\n\n  # none\n SendStop_I2C
+|send 42 10\nLoadPaket_SPI 00|send 02 42 10 01\nLoadPaket_SPI 00 00|send 02 42 10 00\nLoadPaket_SPI 00
+|send 02 0B\nLoadPaketSize_SPI 10\nLoadPaket_SPI 00|samples 02 42 10\nLoadPaket_SPI 00|send 02 1D 00 42 10 01\nLoadPaket_SPI 00
+|InterfaceChoiceSPI\nLoadPaketSize_SPI 40\nLoadPaketSize_SPI 09\nResetDevice\nInterfaceChoiceSPI\nFastSendPaket_SPI 00"""
 
 WRONG = r"""
 |send|send |send  \t \n|samples|samples \r\n|\n\nsend # 00|samples#00|send#\n|send\n00|send 0|send 000|send 0g|send G0
@@ -171,7 +74,9 @@ WRONG = r"""
 |LoadTimes_1W 00 x 10|LoadTimes_1W|DoExtendedCommand|send 00 x 28672\nsend 00 x 4065
 |send 00 x 28672\nsend 00 x 4060\n\tReadError|send 00 x 28672\nsend 00 x 4060\nfault frame
 |samples 00 x 32736\n  fault none|samples 00 x 32000\n \n  samples 00 x 733 # y
-|send 00 x 30000\nsend 00 x 30000\nnothing|send 00\nsend 0\nsend"""
+|send 00 x 30000\nsend 00 x 30000\nnothing|send 00\nsend 0\nsend
+|send 02 42 10\nLoadPaket_SPI 01|send 02 42 10 01\nLoadPaket_SPI 00|send 02 42 10 00\nLoadPaket_SPI 00 00
+|send 02 1D 42 10\nLoadPaket_SPI 00 00"""
 
 def by_hand():
     for words, good in ((GOOD, True), (WRONG, False)):
@@ -202,11 +107,11 @@ def random_list(rng, count):
         count -= 1
     return words
 
-def random_line(rng):
-    kind = rng.randrange(10)
+def random_line(rng, stream):
+    kind = rng.randrange(12)
     if kind < 4:
         name = rng.choice(list(COMMANDS))
-        words = [name] + random_list(rng, rng.choice(list(COMMANDS[name][1])) + (rng.random() < 0.03))
+        words = [name] + random_list(rng, takes(name, stream) + (rng.random() < 0.03))
     elif kind < 7:
         words = [rng.choice((b"send", b"samples"))] + random_list(rng, rng.randrange(1, 12))
         if rng.random() < 0.3:
@@ -214,6 +119,11 @@ def random_line(rng):
             words += [b"%02X" % rng.randrange(256), b"x", rng.choices(COUNTS, weight)[0].encode()]
     elif kind < 8:
         words = [b"fault", rng.choice(list(FAULTS))]
+    elif kind < 9:
+        words = [b"send", b"02", b"42", b"%02X" % rng.randrange(256)]
+    elif kind < 10:
+        name = rng.choice((b"LoadPaket_SPI", b"FastSendPaket_SPI"))
+        words = [name] + random_list(rng, takes(name, stream) + (rng.random() < 0.1))
     else:
         words = []
     if rng.random() < 0.04:
@@ -225,8 +135,14 @@ def random_line(rng):
     return line + rng.choice((b"", b"", b"", b"# send", b" # \xe9 y", b"\r"))
 
 def random_script(seed):
-    rng = random.Random(seed)
-    text = b"\n".join(random_line(rng) for _ in range(rng.randrange(1, 16)))
+    rng, lines, stream = random.Random(seed), [], Stream()
+    for _ in range(rng.randrange(1, 16)):
+        lines.append(random_line(rng, stream))
+        try:
+            stream.follow(statement(lines[-1], stream))
+        except Wrong:
+            pass
+    text = b"\n".join(lines)
     if rng.random() < 0.4 and text:             # one byte lost, changed or more
         place, byte = rng.randrange(len(text)), bytes([rng.choice((*b" \t\r\n#x0Fg", rng.randrange(256)))])
         text = text[:place] + rng.choice((b"", byte, byte + text[place:place + 1])) + text[place + 1:]
@@ -234,6 +150,7 @@ def random_script(seed):
 
 def stored():
     yield from every_command()
+    yield from packets()
     yield from by_hand()
     yield from long_lists()
     yield from map(random_script, range(100))
@@ -246,7 +163,7 @@ def write(data, lines):
     assert len(whole) < 262144, len(whole)
     said = [line_of(text) for text in texts]
     expected = collections.Counter(line.split(b"expected ")[-1].strip().decode() for line in said if not line.startswith(b"good"))
-    assert set(expected) == {STATEMENT, BYTE, COUNT, FAULT_NAME, LINE_END, ROOM, *OPERANDS.values()}, expected
+    assert set(expected) == {STATEMENT, BYTE, COUNT, FAULT_NAME, LINE_END, ROOM, *map(operands_said, range(10))}, expected
     pathlib.Path(data).write_bytes(whole)
     pathlib.Path(lines).write_bytes(b"".join(said))
     print(len(texts), "scripts,", len(whole), "bytes,", len(texts) - sum(expected.values()), "good; expected:", dict(expected))

@@ -10,8 +10,10 @@ fn say_operands(fd: i32, n: u8) {
     match n {
         0 => say(fd, b"no operand"),
         1 => say(fd, b"one operand"),
-        9 => say(fd, b"nine operands"),
-        _ => say(fd, b"one to eight operands"),
+        _ => {
+            io::print_decimal(fd, n as u64);
+            say(fd, b" operands");
+        }
     }
 }
 

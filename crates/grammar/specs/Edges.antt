@@ -1,13 +1,8 @@
 -- 01, "Edges to prove together": P8 to P12, from the factory start (proofs/Edges.antt, `grammar-edges`).
 use mathlib.Core.Path.{_≡_}
-use mathlib.Core.Bool.{false}
 use mathlib.Core.List.{[], _∷_}
-use Rattle.grammar.specs.Grammar.{NoInterface, Context}
+use Rattle.grammar.specs.Grammar.{factory}
 use Rattle.grammar.specs.Verdict.{Whole, Open, Wrong, judgeOf}
-
--- the factory start: no interface, unconfigured, N 1
-abbrev pub factory : Context
-factory = record { interface = NoInterface; configured = false; bits = 1 }
 
 pub record GrammarEdges : Type 0 where
   pub P8 : judgeOf factory [] ≡ Whole

@@ -111,6 +111,10 @@ after (Select i) b c = record { interface = i; configured = c .configured; bits 
 after Configure b c = record { interface = c .interface; configured = true; bits = c .bits }
 after Resize b c = record { interface = c .interface; configured = c .configured; bits = sizeOf width b }
 
+-- the context at the factory start (01, "Switch-on"): no interface, unconfigured, N 1
+abbrev pub factory : Context
+factory = record { interface = NoInterface; configured = false; bits = 1 }
+
 -- the last of b and the bytes after it
 abbrev pub last : ℕ → List ℕ → ℕ
 last b [] = b

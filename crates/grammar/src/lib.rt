@@ -2,6 +2,7 @@
 ghost use mathlib.Core.Path.{_≡_};
 ghost use Rattle.grammar.specs.Verdict.{atEnd, judgeOf};
 
+pub mod following;
 mod rows;
 mod scanning;
 

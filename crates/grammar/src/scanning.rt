@@ -40,7 +40,8 @@ fn is_legal(n: Needs, c: Context) -> bool
     }
 }
 
-fn count_of(o: Operands, c: Context) -> u8
+// How many operands a command has in a context.
+pub(crate) fn count_of(o: Operands, c: Context) -> u8
     ensures { λ r. ⌜ r ≡ count o c ⌝ }
 {
     match o {

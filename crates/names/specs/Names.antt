@@ -1,5 +1,5 @@
--- The commands of the list 001 in 01's order, each with its name, its code and how many operand bytes follow. Lay 001 beside it,
--- sections 2.1, 2.1.1 and 2.2.1 to 2.2.3.
+-- The commands of the list 001 in 01's order, each with its name and its code. Lay 001 beside it, sections 2.1, 2.1.1 and 2.2.1
+-- to 2.2.3. How many operands a command has is the grammar's to say.
 use Prim.Native.Nat.{ℕ, zero, suc}
 use Prim.Native.Char.{code as charCode}
 use Prim.Native.String.{String, [] as []ᵀ, _∷_ as _∷ᵀ_}
@@ -12,108 +12,107 @@ use lib.ListN.{getD, replicate, take, drop}
 pub record Row : Type 0 where
   pub name : String
   pub code : ℕ
-  pub operands : ℕ
 
-abbrev pub row : String → ℕ → ℕ → Row
-row n c k = record { name = n; code = c; operands = k }
+abbrev pub row : String → ℕ → Row
+row n c = record { name = n; code = c }
 
--- 2.1; the operand of 1D is its extended byte
+-- 2.1
 abbrev pub common : List Row
 common =
-    row "ResetDevice" 0x00 0 ∷
-    row "InterfaceChoiceI2C" 0x01 0 ∷
-    row "InterfaceChoiceSPI" 0x02 0 ∷
-    row "InterfaceChoice1W" 0x03 0 ∷
-    row "ReadError" 0x04 0 ∷
-    row "SaveToEPROM" 0x05 0 ∷
-    row "ReadFromEPROM" 0x06 0 ∷
-    row "EnableReports" 0x07 0 ∷
-    row "DisableReports" 0x08 0 ∷
-    row "EnableAutoLoad" 0x09 0 ∷
-    row "DisableAutoLoad" 0x0A 0 ∷
-    row "DDRBSetup" 0x0B 1 ∷
-    row "DDRBRead" 0x0C 0 ∷
-    row "PORTBSetup" 0x0D 1 ∷
-    row "PORTBRead" 0x0E 0 ∷
-    row "DDRCSetup" 0x0F 1 ∷
-    row "DDRCRead" 0x10 0 ∷
-    row "PORTCSetup" 0x11 1 ∷
-    row "PORTCRead" 0x12 0 ∷
-    row "DDRDSetup" 0x13 1 ∷
-    row "DDRDRead" 0x14 0 ∷
-    row "PORTDSetup" 0x15 1 ∷
-    row "PORTDRead" 0x16 0 ∷
-    row "PINBRead" 0x17 0 ∷
-    row "PINCRead" 0x18 0 ∷
-    row "PINDRead" 0x19 0 ∷
-    row "ReadCommonConfig" 0x1A 0 ∷
-    row "ReadVersion" 0x1B 0 ∷
-    row "SetIOG" 0x1C 0 ∷
-    row "DoExtendedCommand" 0x1D 1 ∷
-    row "ReadSerialNumber" 0x1E 0 ∷
+    row "ResetDevice" 0x00 ∷
+    row "InterfaceChoiceI2C" 0x01 ∷
+    row "InterfaceChoiceSPI" 0x02 ∷
+    row "InterfaceChoice1W" 0x03 ∷
+    row "ReadError" 0x04 ∷
+    row "SaveToEPROM" 0x05 ∷
+    row "ReadFromEPROM" 0x06 ∷
+    row "EnableReports" 0x07 ∷
+    row "DisableReports" 0x08 ∷
+    row "EnableAutoLoad" 0x09 ∷
+    row "DisableAutoLoad" 0x0A ∷
+    row "DDRBSetup" 0x0B ∷
+    row "DDRBRead" 0x0C ∷
+    row "PORTBSetup" 0x0D ∷
+    row "PORTBRead" 0x0E ∷
+    row "DDRCSetup" 0x0F ∷
+    row "DDRCRead" 0x10 ∷
+    row "PORTCSetup" 0x11 ∷
+    row "PORTCRead" 0x12 ∷
+    row "DDRDSetup" 0x13 ∷
+    row "DDRDRead" 0x14 ∷
+    row "PORTDSetup" 0x15 ∷
+    row "PORTDRead" 0x16 ∷
+    row "PINBRead" 0x17 ∷
+    row "PINCRead" 0x18 ∷
+    row "PINDRead" 0x19 ∷
+    row "ReadCommonConfig" 0x1A ∷
+    row "ReadVersion" 0x1B ∷
+    row "SetIOG" 0x1C ∷
+    row "DoExtendedCommand" 0x1D ∷
+    row "ReadSerialNumber" 0x1E ∷
     []
 
 -- 2.1.1, the bytes after 1D that 01 keeps
 abbrev pub extended : List Row
 extended =
-    row "GivePagelPosPulse_HVAVR" 0x01 0 ∷
-    row "GiveXTALPosPulse_HVAVR" 0x02 0 ∷
-    row "GiveWRNegPulse_HVAVR" 0x03 0 ∷
-    row "GiveWR250NegPulse_HVAVR" 0x08 0 ∷
-    row "GiveWR20NegPulse_HVAVR" 0x09 0 ∷
-    row "SetPort_PG" 0x0A 0 ∷
-    row "ClearPort_PG" 0x0B 0 ∷
-    row "SetDDR_PG" 0x0C 0 ∷
-    row "ClearDDR_PG" 0x0D 0 ∷
-    row "LoadIOGTime" 0x0E 1 ∷
-    row "ReadIOGTime" 0x0F 0 ∷
+    row "GivePagelPosPulse_HVAVR" 0x01 ∷
+    row "GiveXTALPosPulse_HVAVR" 0x02 ∷
+    row "GiveWRNegPulse_HVAVR" 0x03 ∷
+    row "GiveWR250NegPulse_HVAVR" 0x08 ∷
+    row "GiveWR20NegPulse_HVAVR" 0x09 ∷
+    row "SetPort_PG" 0x0A ∷
+    row "ClearPort_PG" 0x0B ∷
+    row "SetDDR_PG" 0x0C ∷
+    row "ClearDDR_PG" 0x0D ∷
+    row "LoadIOGTime" 0x0E ∷
+    row "ReadIOGTime" 0x0F ∷
     []
 
 -- 2.2.1
 abbrev pub i2c : List Row
 i2c =
-    row "SendStart_I2C" 0x20 0 ∷
-    row "SendStop_I2C" 0x21 0 ∷
-    row "SendByte_I2C" 0x22 1 ∷
-    row "ReadByteA_I2C" 0x23 0 ∷
-    row "ReadByte_I2C" 0x24 0 ∷
-    row "ClearCS_I2C" 0x25 0 ∷
-    row "SetCS_I2C" 0x26 0 ∷
-    row "ReadCS_I2C" 0x27 0 ∷
+    row "SendStart_I2C" 0x20 ∷
+    row "SendStop_I2C" 0x21 ∷
+    row "SendByte_I2C" 0x22 ∷
+    row "ReadByteA_I2C" 0x23 ∷
+    row "ReadByte_I2C" 0x24 ∷
+    row "ClearCS_I2C" 0x25 ∷
+    row "SetCS_I2C" 0x26 ∷
+    row "ReadCS_I2C" 0x27 ∷
     []
 
--- 2.2.2; for 44 and 4C the most, eight, of the ceil(N/8) bytes of a packet
+-- 2.2.2
 abbrev pub spi : List Row
 spi =
-    row "LoadConfig_SPI" 0x40 1 ∷
-    row "ReadConfig_SPI" 0x41 0 ∷
-    row "LoadPaketSize_SPI" 0x42 1 ∷
-    row "ReadPaketSize_SPI" 0x43 0 ∷
-    row "LoadPaket_SPI" 0x44 8 ∷
-    row "ReadPaket_SPI" 0x45 0 ∷
-    row "StartChange_SPI" 0x46 0 ∷
-    row "ClearSS_SPI" 0x47 0 ∷
-    row "SetSS_SPI" 0x48 0 ∷
-    row "ReadSS_SPI" 0x49 0 ∷
-    row "ReadSignPaket_SPI" 0x4A 0 ∷
-    row "FastReadPaket_SPI" 0x4B 0 ∷
-    row "FastSendPaket_SPI" 0x4C 8 ∷
+    row "LoadConfig_SPI" 0x40 ∷
+    row "ReadConfig_SPI" 0x41 ∷
+    row "LoadPaketSize_SPI" 0x42 ∷
+    row "ReadPaketSize_SPI" 0x43 ∷
+    row "LoadPaket_SPI" 0x44 ∷
+    row "ReadPaket_SPI" 0x45 ∷
+    row "StartChange_SPI" 0x46 ∷
+    row "ClearSS_SPI" 0x47 ∷
+    row "SetSS_SPI" 0x48 ∷
+    row "ReadSS_SPI" 0x49 ∷
+    row "ReadSignPaket_SPI" 0x4A ∷
+    row "FastReadPaket_SPI" 0x4B ∷
+    row "FastSendPaket_SPI" 0x4C ∷
     []
 
 -- 2.2.3
 abbrev pub oneWire : List Row
 oneWire =
-    row "SendReset_1W" 0x60 0 ∷
-    row "SendByte_1W" 0x61 1 ∷
-    row "ReadByte_1W" 0x62 0 ∷
-    row "SendBit_1W" 0x63 1 ∷
-    row "ReadBit_1W" 0x64 0 ∷
-    row "LoadTimes_1W" 0x65 9 ∷
-    row "ReadTimes_1W" 0x66 0 ∷
-    row "SendByteSTRPU_1W" 0x67 1 ∷
-    row "ClearSTRPU_1W" 0x68 0 ∷
-    row "Get580usPulse_1W" 0x69 0 ∷
-    row "Get110msPulse_1W" 0x6A 0 ∷
+    row "SendReset_1W" 0x60 ∷
+    row "SendByte_1W" 0x61 ∷
+    row "ReadByte_1W" 0x62 ∷
+    row "SendBit_1W" 0x63 ∷
+    row "ReadBit_1W" 0x64 ∷
+    row "LoadTimes_1W" 0x65 ∷
+    row "ReadTimes_1W" 0x66 ∷
+    row "SendByteSTRPU_1W" 0x67 ∷
+    row "ClearSTRPU_1W" 0x68 ∷
+    row "Get580usPulse_1W" 0x69 ∷
+    row "Get110msPulse_1W" 0x6A ∷
     []
 
 abbrev pub rows : List Row
@@ -139,17 +138,11 @@ names = map (λ (r : Row). padded 24 (bytes (r .name))) rows
 abbrev pub codes : List ℕ
 codes = map (λ (r : Row). r .code) rows
 
-abbrev pub counts : List ℕ
-counts = map (λ (r : Row). r .operands) rows
-
 unfoldable pub nameAt : ℕ → List ℕ
 nameAt n = getD names n (blanks 24)
 
 unfoldable pub codeAt : ℕ → ℕ
 codeAt n = getD codes n 0
-
-unfoldable pub operandsAt : ℕ → ℕ
-operandsAt n = getD counts n 0
 
 abbrev pub isExtended : ℕ → Bool
 isExtended n = leb 31 n && leb n 41

@@ -1,10 +1,8 @@
-// The commands of the list 001 by name, code and number of operands: 74 rows in 01's order. 01 leaves out the extended commands
-// 00 and 04 to 07.
+// The commands of the list 001 by name and code: 74 rows in 01's order. 01 leaves out the extended commands 00 and 04 to 07.
 ghost use mathlib.Core.Path.{_≡_};
-ghost use Rattle.names.specs.Names.{nameAt, codeAt, isExtended, operandsAt, rowOf};
+ghost use Rattle.names.specs.Names.{nameAt, codeAt, isExtended, rowOf};
 use crate::tables::CODES;
 use crate::tables::NAMES;
-use crate::tables::OPERANDS;
 
 mod tables;
 
@@ -43,16 +41,6 @@ pub fn extended(row: usize) -> bool
     ensures { λ r. ⌜ r ≡ isExtended row ⌝ }
 {
     (FIRST_EXTENDED <= row) & (row <= LAST_EXTENDED)
-}
-
-// How many operand bytes follow a row's command; of 44 and 4C the most, 8, since theirs are ceil(N/8). 0 past the table.
-pub fn operands(row: usize) -> u8
-    ensures { λ r. ⌜ r ≡ operandsAt row ⌝ }
-{
-    if ROWS <= row {
-        return 0;
-    }
-    OPERANDS[row]
 }
 
 // The row of a code, common or extended; ROWS if it has none.

@@ -10,10 +10,11 @@ use lib.ListN.{length, take, length-append}
 use Rattle.wire.specs.Buffer.{overwrite, Written}
 use Rattle.wire.proofs.Buffers.{overwrite-length, overwrite-append, overwrite-through}
 use Rattle.names.specs.Names.{isExtended}
+use Rattle.grammar.specs.declared.Context.{Context}
 use Rattle.records.proofs.Choices.{by-cond, by-bool}
 use Rattle.script.specs.Words.{Word}
-use Rattle.script.specs.Lists.{Reads, Expected, Stop, Assembled, listOf}
-use Rattle.script.specs.Statements.{most, Statement, nothing, bytes, wrong, listSaid, listAt, opening, takes, commandSaid, commandAt, meant, Within, Says}
+use Rattle.script.specs.Lists.{Reads, Stop, Assembled, listOf}
+use Rattle.script.specs.Statements.{most, bytes, listSaid, listAt, opening, takes, commandSaid, commandAt, Within, Says}
 use Rattle.script.specs.Said.{listEnded, listSaying, commandEnded, commandSaying}
 use Rattle.script.specs.declared.Stop.the-variants as s
 use Rattle.script.specs.declared.statements.Said.{Said}
@@ -40,11 +41,11 @@ says-list t kind p {o} {x} {a} e r =
     rw (d .bytes, n, d .stop) (list-ended kind p o (listOf t most p .bytes) (omega (arith, n, d .within)) (listOf t most p .stop))
 
 -- A COMMAND WITH ITS OPERANDS
-module _ (row p : ℕ) (o xs : List ℕ) (h : length (opening row ++ xs) ≤ length o) where
-  command-ended : (w : Stop) → Says (commandSaid row p xs w) (overwrite o 0 (opening row ++ xs)) (commandEnded row p (length (opening row)) (length (opening row ++ xs)) w)
+module _ (c : Context) (row p : ℕ) (o xs : List ℕ) (h : length (opening row ++ xs) ≤ length o) where
+  command-ended : (w : Stop) → Says (commandSaid c row p xs w) (overwrite o 0 (opening row ++ xs)) (commandEnded c row p (length (opening row)) (length (opening row ++ xs)) w)
   command-ended s.Done =
       let n : length (opening row ++ xs) - length (opening row) ≡ length xs = omega (arith, length-append (opening row) xs) in
-      by-bool (takes row (length xs))
+      by-bool (eqb (length xs) (takes c row))
       (λ e. rw (n, e) (record { is = ap (λ (l : List ℕ). bytes 1 l) (sym (front o (opening row ++ xs) h)); within = omega (arith, overwrite-length o 0 (opening row ++ xs)) }))
       (λ e. rw (n, e) (record { is = refl; within = tt }))
   command-ended (s.Wrong q e) = record { is = refl; within = tt }
@@ -54,9 +55,9 @@ opened row {o} {y} {n} e w =
     let m : length (opening row) ≤ 2 = by-cond (λ (l : List ℕ). length l ≤ 2) (isExtended row) (λ _. omega arith) (λ _. omega arith) in
     omega (arith, m, w .after, overwrite-length o 0 (opening row), ap length (w .bytes))
 
-pub says-command : (t : List ℕ) (w : Word) (row : ℕ) {o y x : List ℕ} {n : ℕ} {a : Assembled} → row < 74 → length o ≡ most
-    → Written o 0 (opening row) y n → Reads (listOf t (length y - n) (w .end)) y n x a → Says (commandAt t w row) x (commandSaying row (w .start) n a)
-says-command t w row {o} {y} {x} {n} {a} h e u r =
+pub says-command : (t : List ℕ) (c : Context) (w : Word) (row : ℕ) {o y x : List ℕ} {n : ℕ} {a : Assembled} → row < 74 → length o ≡ most
+    → Written o 0 (opening row) y n → Reads (listOf t (length y - n) (w .end)) y n x a → Says (commandAt t c w row) x (commandSaying c row (w .start) n a)
+says-command t c w row {o} {y} {x} {n} {a} h e u r =
     let l = opening row in
     let k : n ≡ length l = u .after ∙ zero-add (length l) in
     let room : length y - n ≡ most - length l = omega (arith, k, e, ap length (u .bytes), overwrite-length o 0 l) in
@@ -64,23 +65,13 @@ says-command t w row {o} {y} {x} {n} {a} h e u r =
     let xs = listOf t (most - length l) (w .end) .bytes in
     let b : x ≡ overwrite o 0 (l ++ xs) = d .bytes ∙ rw (u .bytes, u .after) (overwrite-append o 0 l xs) in
     let z : a .size ≡ length (l ++ xs) = d .size ∙ rw k (sym (length-append l xs)) in
-    rw (lt-ltb row 74 h, b, k, z, d .stop) (command-ended row (w .start) o xs (omega (arith, z, d .within, ap length (u .bytes), overwrite-length o 0 l)) (listOf t (most - length l) (w .end) .stop))
+    rw (lt-ltb row 74 h, b, k, z, d .stop) (command-ended c row (w .start) o xs (omega (arith, z, d .within, ap length (u .bytes), overwrite-length o 0 l)) (listOf t (most - length l) (w .end) .stop))
 
 -- A FAULT, one byte
 pub says-fault : (code : ℕ) {o x : List ℕ} {n : ℕ} → length o ≡ most → Written o 0 (code ∷ []) x n → Says (bytes 2 (code ∷ [])) x (d.Bytes 2 n)
 says-fault code {o} {x} {n} e w =
     rw (w .bytes, w .after) (record { is = ap (λ (l : List ℕ). bytes 2 l) (sym (front o (code ∷ []) (omega (arith, e)))); within = omega (arith, e, overwrite-length o 0 (code ∷ [])) })
 
--- WHAT WAS SAID
-module _ {st : Statement} {l : List ℕ} {r : Said} (h : Says st l r) where
-  pub said-nothing : r ≡ d.Nothing → st ≡ nothing
-  said-nothing e = h .is ∙ ap (λ (x : Said). meant l x) e
-
-  pub said-bytes : {kind n : ℕ} → r ≡ d.Bytes kind n → st ≡ bytes kind (take n l)
-  said-bytes e = h .is ∙ ap (λ (x : Said). meant l x) e
-
-  pub said-within : {kind n : ℕ} → r ≡ d.Bytes kind n → n ≤ length l
-  said-within e = subst (λ (x : Said). Within l x) e (h .within)
-
-  pub said-wrong : {p : ℕ} {z : Expected} → r ≡ d.Wrong p z → st ≡ wrong p z
-  said-wrong e = h .is ∙ ap (λ (x : Said). meant l x) e
+-- bytes that are said are in the buffer
+pub bytes-within : (l : List ℕ) (r : Said) {kind n : ℕ} → r ≡ d.Bytes kind n → Within l r → n ≤ length l
+bytes-within l r e h = subst (λ (x : Said). Within l x) e h

@@ -2,7 +2,7 @@
 use Prim.Native.Nat.{ℕ, _-_}
 use mathlib.Core.Bool.{cond}
 use lib.Dec.{eqb}
-use Rattle.names.specs.Names.{operandsAt}
+use Rattle.grammar.specs.declared.Context.{Context}
 use Rattle.script.specs.Lists.{Stop, Assembled}
 use Rattle.script.specs.Statements.{takes}
 use Rattle.script.specs.declared.Expected.the-variants as x
@@ -17,9 +17,9 @@ listEnded kind p n (s.Wrong q e) = d.Wrong q e
 abbrev pub listSaying : ℕ → ℕ → Assembled → Said
 listSaying kind p r = listEnded kind p (r .size) (r .stop)
 
-abbrev pub commandEnded : ℕ → ℕ → ℕ → ℕ → Stop → Said
-commandEnded row p from n s.Done = cond (takes row (n - from)) (d.Bytes 1 n) (d.Wrong p (x.Operands (operandsAt row)))
-commandEnded row p from n (s.Wrong q e) = d.Wrong q e
+abbrev pub commandEnded : Context → ℕ → ℕ → ℕ → ℕ → Stop → Said
+commandEnded c row p from n s.Done = cond (eqb (n - from) (takes c row)) (d.Bytes 1 n) (d.Wrong p (x.Operands (takes c row)))
+commandEnded c row p from n (s.Wrong q e) = d.Wrong q e
 
-abbrev pub commandSaying : ℕ → ℕ → ℕ → Assembled → Said
-commandSaying row p from r = commandEnded row p from (r .size) (r .stop)
+abbrev pub commandSaying : Context → ℕ → ℕ → ℕ → Assembled → Said
+commandSaying c row p from r = commandEnded c row p from (r .size) (r .stop)

@@ -2,8 +2,12 @@
 use Prim.Native.Nat.{ℕ, zero, suc, _-_}
 use mathlib.Core.Bool.{cond}
 use mathlib.Core.List.{List, []}
-use lib.Dec.{leb}
+use lib.Dec.{eqb, leb}
 use lib.ListN.{length}
+use Rattle.grammar.specs.Grammar.{factory}
+use Rattle.grammar.specs.Scanner.{between}
+use Rattle.grammar.specs.declared.Scanner.{Scanner}
+use Rattle.grammar.specs.Following.{followed}
 use Rattle.script.specs.Words.{past}
 use Rattle.script.specs.Lists.{Read, read, after, Stop}
 use Rattle.script.specs.Parts.{cutOf}
@@ -17,20 +21,27 @@ recordsOf room p nothing = read [] s.Done
 recordsOf room p (bytes kind xs) = cutOf kind xs room p
 recordsOf room p (wrong q e) = read [] (s.Wrong q e)
 
-unfoldable pub lineOf : List ℕ → ℕ → ℕ → Read
-lineOf t room p = recordsOf room p (statementAt t p)
+-- where the bytes lead after a statement; samples hand over none, and line faults leave any wait (01)
+abbrev pub handed : Scanner → Statement → Scanner
+handed g nothing = g
+handed g (bytes kind xs) = cond (eqb kind 1) (followed g xs) g
+handed g (wrong q e) = g
 
 -- what is read, and then the rest unless something is wrong
-abbrev pub followed : List ℕ → Stop → Read → Read
-followed xs s.Done rest = after xs rest
-followed xs (s.Wrong p e) rest = read xs (s.Wrong p e)
+abbrev pub goingOn : List ℕ → Stop → Read → Read
+goingOn xs s.Done rest = after xs rest
+goingOn xs (s.Wrong p e) rest = read xs (s.Wrong p e)
 
--- THE SCRIPT from a place on, in so many lines. A line takes a byte of the text, so the text's length and one are enough.
-unfoldable pub scriptFor : ℕ → List ℕ → ℕ → ℕ → Read
-scriptFor zero t room p = read [] s.Done
-scriptFor (suc n) t room p =
+-- THE SCRIPT from a place on, to which the bytes so far lead, in so many lines. A line takes a byte of the text, so the text's
+-- length and one are enough.
+unfoldable pub scriptFor : ℕ → List ℕ → Scanner → ℕ → ℕ → Read
+scriptFor zero t g room p = read [] s.Done
+scriptFor (suc n) t g room p =
+    let st = statementAt t (g .context) p in
+    let d = recordsOf room p st in
     cond (leb (length t) p) (read [] s.Done)
-    (followed (lineOf t room p .bytes) (lineOf t room p .stop) (scriptFor n t (room - length (lineOf t room p .bytes)) (suc (past t k.Line p))))
+    (goingOn (d .bytes) (d .stop) (scriptFor n t (handed g st) (room - length (d .bytes)) (suc (past t k.Line p))))
 
+-- .. from the factory start, where every session begins
 unfoldable pub scriptOf : List ℕ → ℕ → Read
-scriptOf t room = scriptFor (suc (length t)) t room 0
+scriptOf t room = scriptFor (suc (length t)) t (between factory) room 0

@@ -2,11 +2,13 @@
 -- with its operands.
 use Prim.Native.Nat.{ℕ, _-_, _≤_}
 use mathlib.Core.Path.{_≡_}
-use mathlib.Core.Bool.{Bool, cond, _&&_}
+use mathlib.Core.Bool.{cond}
 use mathlib.Core.List.{List, [], _∷_, _++_}
-use lib.Dec.{eqb, leb, ltb}
+use lib.Dec.{eqb, ltb}
 use lib.ListN.{length, take}
-use Rattle.names.specs.Names.{bytes as text, codeAt, operandsAt, isExtended}
+use Rattle.names.specs.Names.{bytes as text, codeAt, isExtended}
+use Rattle.grammar.specs.declared.Context.{Context}
+use Rattle.grammar.specs.Following.{operandsIn}
 use Rattle.script.specs.Words.{Word, wordAt, textOf, same}
 use Rattle.script.specs.Lists.{listOf, Expected, Stop}
 use Rattle.script.specs.Parts.{rowNamed}
@@ -45,33 +47,33 @@ faultAt t w = cond (eqb (faultNamed (textOf t w)) 0) (wrong (w .start) x.Fault) 
 abbrev pub opening : ℕ → List ℕ
 opening row = cond (isExtended row) (0x1D ∷ codeAt row ∷ []) (codeAt row ∷ [])
 
--- whether a command takes so many operands; a packet has one to eight bytes, by a size that earlier bytes set
-abbrev pub takes : ℕ → ℕ → Bool
-takes row n = cond (eqb (operandsAt row) 8) (leb 1 n && leb n 8) (eqb n (operandsAt row))
+-- how many operands a command takes where it stands: a packet's depend on the size that earlier bytes set
+abbrev pub takes : Context → ℕ → ℕ
+takes c row = operandsIn c (codeAt row) (isExtended row)
 
-abbrev pub commandSaid : ℕ → ℕ → List ℕ → Stop → Statement
-commandSaid row p xs s.Done = cond (takes row (length xs)) (bytes 1 (opening row ++ xs)) (wrong p (x.Operands (operandsAt row)))
-commandSaid row p xs (s.Wrong q e) = wrong q e
+abbrev pub commandSaid : Context → ℕ → ℕ → List ℕ → Stop → Statement
+commandSaid c row p xs s.Done = cond (eqb (length xs) (takes c row)) (bytes 1 (opening row ++ xs)) (wrong p (x.Operands (takes c row)))
+commandSaid c row p xs (s.Wrong q e) = wrong q e
 
 -- a command whose name is the word, if there is one
-abbrev pub commandAt : List ℕ → Word → ℕ → Statement
-commandAt t w row =
-    cond (ltb row 74) (commandSaid row (w .start) (listOf t (most - length (opening row)) (w .end) .bytes) (listOf t (most - length (opening row)) (w .end) .stop)) (wrong (w .start) x.Statement)
+abbrev pub commandAt : List ℕ → Context → Word → ℕ → Statement
+commandAt t c w row =
+    cond (ltb row 74) (commandSaid c row (w .start) (listOf t (most - length (opening row)) (w .end) .bytes) (listOf t (most - length (opening row)) (w .end) .stop)) (wrong (w .start) x.Statement)
 
--- THE STATEMENT by its first word, and at a place of the text
+-- THE STATEMENT by its first word, and at a place of the text, in the context that the bytes before it lead to
 abbrev pub listAt : List ℕ → ℕ → ℕ → Statement
 listAt t kind p = listSaid kind p (listOf t most p .bytes) (listOf t most p .stop)
 
-abbrev pub statementBy : List ℕ → Word → Statement
-statementBy t w =
+abbrev pub statementBy : List ℕ → Context → Word → Statement
+statementBy t c w =
     cond (eqb (w .start) (w .end)) nothing
     (cond (same (textOf t w) (text "send")) (listAt t 1 (w .end))
     (cond (same (textOf t w) (text "samples")) (listAt t 3 (w .end))
     (cond (same (textOf t w) (text "fault")) (faultAt t (wordAt t (w .end)))
-    (commandAt t w (rowNamed (textOf t w))))))
+    (commandAt t c w (rowNamed (textOf t w))))))
 
-unfoldable pub statementAt : List ℕ → ℕ → Statement
-statementAt t p = statementBy t (wordAt t p)
+unfoldable pub statementAt : List ℕ → Context → ℕ → Statement
+statementAt t c p = statementBy t c (wordAt t p)
 
 -- what is said, with its bytes at the front of a buffer that holds l
 abbrev pub meant : List ℕ → Said → Statement

@@ -3,8 +3,8 @@ ghost use mathlib.Core.Path.{_≡_};
 ghost use Prim.Native.Nat.{_-_, _≤_};
 ghost use lib.ListN.{length};
 ghost use Rattle.script.specs.Lists.{Reads};
-ghost use Rattle.script.specs.Statements.{most};
-ghost use Rattle.script.specs.Script.{lineOf, scriptOf};
+ghost use Rattle.script.specs.Statements.{meant, Within};
+ghost use Rattle.script.specs.Script.{recordsOf, handed, scriptOf};
 
 mod cut;
 mod lists;
@@ -14,6 +14,8 @@ pub mod place;
 mod statements;
 mod words;
 
+use grammar::Scanner;
+use grammar::following;
 use statements::Said;
 use words::Class;
 
@@ -49,12 +51,12 @@ pub struct Position {
 // The most bytes of a session.
 const MOST_SESSION: usize = 32768;
 
-// The records of the line at a place, to the output from a place on, with the statement's bytes in a buffer of its own.
-fn line(text: &[u8], at: usize, body: &mut [u8], out: &mut [u8], size: usize) -> Assembled
-    requires { ⌜ (at ≤ length (now text)) × (length (now body) ≡ most) × (size ≤ length (now out)) ⌝ }
-    ensures { λ r. ⌜ Reads (lineOf (now (text .entry)) (length (now (out .entry)) - size) at) (now (out .entry)) size (now (out .exit)) r ⌝ }
+// The records of what the line at a place says, to the output from a place on. The caller shows that the statement's bytes are in
+// the buffer and that the place is there.
+fn put_said(said: Said, body: &[u8], at: usize, out: &mut [u8], size: usize) -> Assembled
+    requires { ⌜ Within (now body) said × (size ≤ length (now out)) ⌝ }
+    ensures { λ r. ⌜ Reads (recordsOf (length (now (out .entry)) - size) at (meant (now (body .entry)) said)) (now (out .entry)) size (now (out .exit)) r ⌝ }
 {
-    let said = statements::statement(text, at, body);
     match said {
         Said::Nothing => Assembled {
             size,
@@ -68,20 +70,43 @@ fn line(text: &[u8], at: usize, body: &mut [u8], out: &mut [u8], size: usize) ->
     }
 }
 
+// Where the bytes lead after what a line says. The caller shows that the statement's bytes are in the buffer.
+fn hand_over(g: Scanner, said: Said, body: &[u8]) -> Scanner
+    requires { ⌜ Within (now body) said ⌝ }
+    ensures { λ r. ⌜ r ≡ handed g (meant (now (body .entry)) said) ⌝ }
+{
+    match said {
+        Said::Nothing => g,
+        Said::Bytes { kind, size } => {
+            if kind == statements::BYTES {
+                return following::follow(g, &body[..size]);
+            }
+            g
+        }
+        Said::Wrong {
+            place: _,
+            expected: _,
+        } => g,
+    }
+}
+
 // A script's records, to the front of the output, up to the first line that is wrong or does not fit. Any text and any output
 // will do.
 pub fn assemble(text: &[u8], out: &mut [u8]) -> Assembled
     ensures { λ r. ⌜ Reads (scriptOf (now (text .entry)) (length (now (out .entry)))) (now (out .entry)) 0 (now (out .exit)) r ⌝ }
 {
     let mut body = [0u8; MOST_SESSION];
+    let mut g = following::start();
     let mut at: usize = 0;
     let mut size: usize = 0;
     while at < text.len() {
-        let r = line(text, at, &mut body, out, size);
+        let said = statements::statement(text, g.context, at, &mut body);
+        let r = put_said(said, &body, at, out, size);
         let stop = r.stop;
         size = r.size;
         match stop {
             Stop::Done => {
+                g = hand_over(g, said, &body);
                 at = words::past(text, Class::Line, at) + 1;
             }
             Stop::Wrong { place, expected } => {

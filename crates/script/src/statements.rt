@@ -12,9 +12,11 @@ use crate::lists::list;
 use crate::named::row_named;
 use crate::words::Word;
 use crate::words::word_at;
+use grammar::Context;
+use grammar::following;
 
 // The kinds of records.
-const BYTES: u16 = 1;
+pub(crate) const BYTES: u16 = 1;
 
 const FAULT: u16 = 2;
 
@@ -22,9 +24,6 @@ const SAMPLES: u16 = 3;
 
 // The byte before an extended command's.
 const EXTENDED: u8 = 0x1D;
-
-// How many bytes a packet has at the most; its number of operands in the list of names.
-const PACKET: usize = 8;
 
 // What a line says: nothing, so many bytes at the front of a buffer for records of a kind, or what is wrong at a place.
 pub(crate) enum Said {
@@ -106,32 +105,29 @@ fn put_opening(row: usize, body: &mut [u8]) -> usize
     wire::put_bytes(body, 0, &[code])
 }
 
-// Whether a row's command takes so many operands.
-fn takes(row: usize, n: usize) -> bool
-    ensures { λ r. ⌜ r ≡ takes row n ⌝ }
+// How many operands a row's command takes in a context.
+fn takes(c: Context, row: usize) -> u8
+    ensures { λ r. ⌜ r ≡ takes c row ⌝ }
 {
-    let most = names::operands(row) as usize;
-    if most == PACKET {
-        return (1 <= n) & (n <= PACKET);
-    }
-    n == most
+    following::operands(c, names::code(row), names::extended(row))
 }
 
-// A row's command with its name's place, with its operands read behind its first bytes.
-fn command_said(row: usize, place: usize, from: usize, r: Assembled) -> Said
+// A row's command with its name's place, with its operands read behind its first bytes. The caller shows that they are behind them.
+fn command_said(c: Context, row: usize, place: usize, from: usize, r: Assembled) -> Said
     requires { ⌜ from ≤ r .size ⌝ }
-    ensures { λ s. ⌜ s ≡ commandSaying row place from r ⌝ }
+    ensures { λ s. ⌜ s ≡ commandSaying c row place from r ⌝ }
 {
     let stop = r.stop;
     let size = r.size;
     match stop {
         Stop::Done => {
-            if takes(row, size - from) {
+            let wanted = takes(c, row);
+            if size - from == wanted as usize {
                 return Said::Bytes { kind: BYTES, size };
             }
             Said::Wrong {
                 place,
-                expected: Expected::Operands(names::operands(row)),
+                expected: Expected::Operands(wanted),
             }
         }
         Stop::Wrong { place, expected } => Said::Wrong { place, expected },
@@ -139,9 +135,9 @@ fn command_said(row: usize, place: usize, from: usize, r: Assembled) -> Said
 }
 
 // A command by its row, past the list's end if the word names none.
-fn command(text: &[u8], w: Word, row: usize, body: &mut [u8]) -> Said
+fn command(text: &[u8], c: Context, w: Word, row: usize, body: &mut [u8]) -> Said
     requires { ⌜ (w .start ≤ w .end) × (w .end ≤ length (now text)) × (length (now body) ≡ most) ⌝ }
-    ensures { λ r. ⌜ Says (commandAt (now (text .entry)) w row) (now (body .exit)) r ⌝ }
+    ensures { λ r. ⌜ Says (commandAt (now (text .entry)) c w row) (now (body .exit)) r ⌝ }
 {
     let place = w.start;
     if names::ROWS <= row {
@@ -152,7 +148,7 @@ fn command(text: &[u8], w: Word, row: usize, body: &mut [u8]) -> Said
     }
     let from = put_opening(row, body);
     let r = list(text, w.end, body, from);
-    command_said(row, place, from, r)
+    command_said(c, row, place, from, r)
 }
 
 // A list of a kind, after a keyword that ends at a place.
@@ -165,9 +161,9 @@ fn list_at(text: &[u8], kind: u16, at: usize, body: &mut [u8]) -> Said
 }
 
 // The statement that begins with a word.
-fn statement_by(text: &[u8], w: Word, body: &mut [u8]) -> Said
+fn statement_by(text: &[u8], c: Context, w: Word, body: &mut [u8]) -> Said
     requires { ⌜ (w .start ≤ w .end) × (w .end ≤ length (now text)) × (length (now body) ≡ most) ⌝ }
-    ensures { λ r. ⌜ Says (statementBy (now (text .entry)) w) (now (body .exit)) r ⌝ }
+    ensures { λ r. ⌜ Says (statementBy (now (text .entry)) c w) (now (body .exit)) r ⌝ }
 {
     let from = w.start;
     let to = w.end;
@@ -184,15 +180,15 @@ fn statement_by(text: &[u8], w: Word, body: &mut [u8]) -> Said
     if check::same(word, b"fault") {
         return fault(text, word_at(text, to), body);
     }
-    command(text, w, row_named(word), body)
+    command(text, c, w, row_named(word), body)
 }
 
 // The statement of the line at a place of the text, with its bytes at the front of a buffer. The caller shows that the place is
 // there and that the buffer has room for the most bytes of a session.
-pub(crate) fn statement(text: &[u8], at: usize, body: &mut [u8]) -> Said
+pub(crate) fn statement(text: &[u8], c: Context, at: usize, body: &mut [u8]) -> Said
     requires { ⌜ (at ≤ length (now text)) × (length (now body) ≡ most) ⌝ }
-    ensures { λ r. ⌜ Says (statementAt (now (text .entry)) at) (now (body .exit)) r ⌝ }
+    ensures { λ r. ⌜ Says (statementAt (now (text .entry)) c at) (now (body .exit)) r ⌝ }
 {
     let w = word_at(text, at);
-    statement_by(text, w, body)
+    statement_by(text, c, w, body)
 }

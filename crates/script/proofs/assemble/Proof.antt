@@ -1,6 +1,6 @@
 -- Line after line: reading the rest of the script gives what reading it all gives.
 use borrow.Author.Needs.{needs}
-use mathlib.Core.Path.{_≡_, sym, _∙_}
+use mathlib.Core.Path.{_≡_, sym}
 use Prim.Native.Nat.{_-_}
 use native.Mathlib.Omega.{arith}
 use lib.ListN.{length}
@@ -11,10 +11,10 @@ use Rattle.script.proofs.assemble.Statement.{statement}
 use Rattle.script.proofs.assemble.Tie as tie
 
 abbrev Inv-loop : tie.InvT-loop
-Inv-loop text out₀ body₀ at₀ size₀ out body at size = Assembling text out₀ out at size × (32768 ≡ length body)
+Inv-loop text out₀ body₀ g₀ at₀ size₀ out body g at size = Assembling text out₀ out g at size × (32768 ≡ length body)
 
 abbrev μ-loop : tie.MeasureT-loop
-μ-loop text out₀ body₀ at₀ size₀ out body at size = length text - at
+μ-loop text out₀ body₀ g₀ at₀ size₀ out body g at size = length text - at
 
 pub assemble-spec : {M : Type 1} → statement M
 assemble-spec =
@@ -22,16 +22,21 @@ assemble-spec =
     (tie.spec
     Inv-loop
     μ-loop
-    (λ c. (assembling-first (c .before .before .args .text .now) (c .before .before .args .out .now), search needs))
-    (λ c. search needs)
-    (λ c κs. let l = c .before .before .before .loop in (omega (arith, c .before .before .loop-test .taken), sym (l .inv .1), omega (arith, l .inv .0 .within, l .inv .0 .same)))
-    (λ c. search needs)
     (λ c κs. search needs)
-    (λ c. let l = c .before .before .before .before .before .before .before .before .before .before .loop in let a = c .before .before .before .before .before .before .before .before .before .before .before .before .before .args in record { fits = omega (arith, c .past .ensures, past-within (a .text .now) Line (l .at) (omega (arith, c .before .before .before .before .before .before .before .before .before .loop-test .taken)), c .before .before .before .before .before .before .before .before .before .before .before .before .before .good) })
-    (λ c. let l = c .before .before .before .before .before .before .before .before .before .before .loop in let a = c .before .before .before .before .before .before .before .before .before .before .before .before .before .args in omega (arith, c .past .ensures, c .before .before .before .before .before .before .before .before .before .loop-test .taken))
-    (λ c. let l = c .before .before .before .before .before .before .before .before .before .before .loop in let a = c .before .before .before .before .before .before .before .before .before .before .before .before .before .args in (assembling-on (a .text .now) (a .out .now) (l .out) (l .at) (l .size) (l .inv .0) (c .before .before .before .before .before .before .before .before .before .loop-test .taken) _ _ (c .before .before .before .before .before .before .line .ensures) (c .before .enum-told .given .1) _ (c .past .ensures), search needs))
+    (λ c. let a = c .before .before .before .args in (rw (c .start .ensures) (assembling-first (a .text .now) (a .out .now)), search needs))
     (λ c. search needs)
-    (λ c. let l = c .before .before .before .before .before .before .before .before .before .before .loop in omega (arith, l .inv .0 .same))
-    (λ c. let l = c .before .before .before .before .before .before .before .before .before .before .loop in let a = c .before .before .before .before .before .before .before .before .before .before .before .before .before .args in assembling-wrong (a .text .now) (a .out .now) (l .out) (l .at) (l .size) (l .inv .0) (c .before .before .before .before .before .before .before .before .before .loop-test .taken) _ _ (c .before .before .before .before .before .before .line .ensures) (c .before .stop .given .1))
+    (λ c κs. let m = c .before .before in (omega (arith, c .before .loop-test .taken), sym (m .loop .inv .1)))
+    (λ c. search needs)
+    (λ c κs. let m = c .before .before .before .before .before .before in (c .before .before .before .statement .ensures .within, omega (arith, m .loop .inv .0 .within, m .loop .inv .0 .same)))
+    (λ c. search needs)
+    (λ c. search needs)
+    (λ c κs. c .before .before .before .before .before .before .before .before .before .statement .ensures .within)
+    (λ c κs. search needs)
+    (λ c. let m = c .before .before .before .before .before .before .before .before .before .before .before .before .before .before in let s = m .before .before .before .before in record { fits = omega (arith, c .past .ensures, past-within (s .args .text .now) Line (m .loop .at) (omega (arith, c .before .before .before .before .before .before .before .before .before .before .before .before .before .loop-test .taken)), s .good) })
+    (λ c. omega (arith, c .past .ensures, c .before .before .before .before .before .before .before .before .before .before .before .before .before .loop-test .taken))
+    (λ c. let m = c .before .before .before .before .before .before .before .before .before .before .before .before .before .before in let s = m .before .before .before .before in let q = c .before .before .before .before .before .before .before .before .before .before .before .statement .ensures in (assembling-on (s .args .text .now) (s .args .out .now) (m .loop .out) (m .loop .g) (m .loop .at) (m .loop .size) (m .loop .inv .0) (c .before .before .before .before .before .before .before .before .before .before .before .before .before .loop-test .taken) _ (q .is) _ _ (c .before .before .before .before .before .before .before .put-said .ensures) (c .before .before .before .enum-told .given .1) _ (c .before .hand-over .ensures) _ (c .past .ensures), search needs))
+    (λ c. search needs)
+    (λ c. let m = c .before .before .before .before .before .before .before .before .before .before .before .before in omega (arith, m .loop .inv .0 .same))
+    (λ c. let m = c .before .before .before .before .before .before .before .before .before .before .before .before in let s = m .before .before .before .before in let q = c .before .before .before .before .before .before .before .before .before .statement .ensures in assembling-wrong (s .args .text .now) (s .args .out .now) (m .loop .out) (m .loop .g) (m .loop .at) (m .loop .size) (m .loop .inv .0) (c .before .before .before .before .before .before .before .before .before .before .before .loop-test .taken) _ (q .is) _ _ (c .before .before .before .before .before .put-said .ensures) (c .before .stop .given .1))
     (λ c. c .before .loop .inv .0 .same)
-    (λ c. let l = c .before .loop in let a = c .before .before .before .before .args in assembling-end (a .text .now) (a .out .now) (l .out) (l .at) (l .size) (l .inv .0) (c .loop-test .left)))
+    (λ c. let m = c .before in let s = m .before .before .before .before in assembling-end (s .args .text .now) (s .args .out .now) (m .loop .out) (m .loop .g) (m .loop .at) (m .loop .size) (m .loop .inv .0) (c .loop-test .left)))

@@ -15,4 +15,4 @@ command-spec =
     (λ c κs. (c .before .before .before .before .before .before .before .before .pre .1, opened (c .before .before .before .before .before .before .before .before .args .row) (c .before .before .before .before .before .before .before .before .pre .2) (c .before .before .before .put-opening .ensures)))
     (λ c κs. search needs)
     (λ c. search needs)
-    (λ c. let a = c .before .before .before .before .before .before .before .before .before .before .before .before .args in rw (c .command-said .ensures) (says-command (a .text .now) (a .w) (a .row) (c .before .before .before .before .before .before .before .before .before .if1 .left) (c .before .before .before .before .before .before .before .before .before .before .before .before .pre .2) (c .before .before .before .before .before .before .before .put-opening .ensures) (c .before .before .before .list .ensures))))
+    (λ c. let a = c .before .before .before .before .before .before .before .before .before .before .before .before .args in rw (c .command-said .ensures) (says-command (a .text .now) (a .c) (a .w) (a .row) (c .before .before .before .before .before .before .before .before .before .if1 .left) (c .before .before .before .before .before .before .before .before .before .before .before .before .pre .2) (c .before .before .before .before .before .before .before .put-opening .ensures) (c .before .before .before .list .ensures))))

@@ -1,8 +1,5 @@
--- A packet, or so many operands.
+-- The grammar's count for the row's code.
 use borrow.Author.Needs.{needs}
-use borrow.Author.Tests.{eq-eqb, ne-eqb}
-use mathlib.Core.Path.{sym, _∙_}
-use Rattle.names.specs.Names.{operandsAt}
 use Rattle.script.proofs.statements.takes.Statement.{statement}
 use Rattle.script.proofs.statements.takes.Tie as tie
 
@@ -11,6 +8,6 @@ takes-spec =
     tie.close
     (tie.spec
     (λ c κs. search needs)
-    (λ c. search needs)
-    (λ c. rw (eq-eqb (operandsAt (c .before .before .args .row)) 8 (sym (c .before .operands .ensures) ∙ c .if1 .taken)))
-    (λ c. rw (c .before .operands .ensures, ne-eqb (operandsAt (c .before .before .args .row)) 8 (λ z. c .if1 .left (c .before .operands .ensures ∙ z)))))
+    (λ c κs. search needs)
+    (λ c κs. search needs)
+    (λ c. rw (← c .before .before .code .ensures, ← c .before .extended .ensures) (c .operands .ensures)))

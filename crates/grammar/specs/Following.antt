@@ -1,0 +1,26 @@
+-- For whoever writes a command stream: where the bytes so far lead, and how many operands a command then has.
+use Prim.Native.Nat.{ℕ}
+use mathlib.Core.Bool.{Bool, true, false}
+use mathlib.Core.List.{List, [], _∷_}
+use Rattle.grammar.specs.Grammar.{Context, count}
+use Rattle.grammar.specs.Scanner.{Scanner, Scanned, Accepted, Rejected, Opening, Unknown, Known, Extension, openingOf, extensionOf, scan}
+
+-- a rejected byte leaves everything but ERROR as it is (01, "Registers and common commands"), and so where the bytes lead
+abbrev pub passing : Scanner → Scanned → Scanner
+passing g (Accepted h) = h
+passing g (Rejected w) = g
+
+unfoldable pub followed : Scanner → List ℕ → Scanner
+followed g [] = g
+followed g (b ∷ bs) = followed (passing g (scan g b)) bs
+
+-- the operands of what a byte opens: of 1D its extended byte, of a command those of its row
+abbrev pub operandsOf : Opening → Context → ℕ
+operandsOf Unknown c = 0
+operandsOf (Known k) c = count (k .operands) c
+operandsOf Extension c = 1
+
+-- .. of a byte after 1D, and of one between items
+abbrev pub operandsIn : Context → ℕ → Bool → ℕ
+operandsIn c b true = operandsOf (extensionOf b) c
+operandsIn c b false = operandsOf (openingOf b) c

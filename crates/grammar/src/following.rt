@@ -1,0 +1,74 @@
+// Where the bytes of a stream lead, and how many operands a command then has.
+ghost use mathlib.Core.Path.{_≡_};
+ghost use Rattle.grammar.specs.Grammar.{factory};
+ghost use Rattle.grammar.specs.Scanner.{between, scan};
+ghost use Rattle.grammar.specs.Following.{passing, followed, operandsOf, operandsIn};
+use crate::Context;
+use crate::Interface;
+use crate::Opening;
+use crate::Place;
+use crate::Scanned;
+use crate::Scanner;
+use crate::rows;
+use crate::scanning;
+
+// The scanner at the factory start of a session.
+pub fn start() -> Scanner
+    ensures { λ r. ⌜ r ≡ between factory ⌝ }
+{
+    let context = Context {
+        interface: Interface::NoInterface,
+        configured: false,
+        bits: 1,
+    };
+    Scanner {
+        context,
+        place: Place::Between,
+    }
+}
+
+// Where a scanner stands after a byte; one that is rejected leaves it where it is.
+fn pass(g: Scanner, b: u8) -> Scanner
+    ensures { λ r. ⌜ r ≡ passing g (scan g b) ⌝ }
+{
+    let Scanned::Accepted(h) = scanning::scan_byte(g, b) else {
+        return g;
+    };
+    h
+}
+
+// Where a scanner stands after bytes.
+pub fn follow(from: Scanner, bytes: &[u8]) -> Scanner
+    ensures { λ r. ⌜ r ≡ followed from (now (bytes .entry)) ⌝ }
+{
+    let mut g = from;
+    let mut i = 0;
+    while i < bytes.len() {
+        g = pass(g, bytes[i]);
+        i += 1;
+    }
+    g
+}
+
+fn count(o: Opening, c: Context) -> u8
+    ensures { λ r. ⌜ r ≡ operandsOf o c ⌝ }
+{
+    match o {
+        Opening::Unknown => 0,
+        Opening::Known(k) => {
+            let operands = k.operands;
+            scanning::count_of(operands, c)
+        }
+        Opening::Extension => 1,
+    }
+}
+
+// How many operands a byte has in a context, after 1D or between items.
+pub fn operands(c: Context, b: u8, extended: bool) -> u8
+    ensures { λ r. ⌜ r ≡ operandsIn c b extended ⌝ }
+{
+    if extended {
+        return count(rows::extension(b), c);
+    }
+    count(rows::opening(b), c)
+}

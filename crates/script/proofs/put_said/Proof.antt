@@ -1,0 +1,23 @@
+-- By what the line says.
+use borrow.Author.Needs.{needs}
+use native.Mathlib.Omega.{arith}
+use lib.ListN.{length-take}
+use Rattle.script.specs.declared.Stop.the-variants.{Done, Wrong}
+use Rattle.script.proofs.Reading.{reads-none}
+use Rattle.script.proofs.Saying.{bytes-within}
+use Rattle.script.proofs.put_said.Statement.{statement}
+use Rattle.script.proofs.put_said.Tie as tie
+
+pub put-said-spec : {M : Type 1} → statement M
+put-said-spec =
+    tie.close
+    (tie.spec
+    (λ c. search needs)
+    (λ c. search needs)
+    (λ c. let q = c .before .before .before in simp length-take (omega (arith, bytes-within _ _ (q .said .given .1) (q .before .before .before .before .pre .0))))
+    (λ c κs. search needs)
+    (λ c. search needs)
+    (λ c. let s = c .before .before .before .before in rw (c .enum-told .given .1) (reads-none (s .args .out .now) (s .args .size) Done (s .pre .1)))
+    (λ c. search needs)
+    (λ c. rw (c .before .before .before .before .before .before .said .given .1) (c .before .before .put-records .ensures))
+    (λ c. let s = c .before .before .before .before .before in rw (c .before .said2 .given .1) (reads-none (s .args .out .now) (s .args .size) (Wrong _ _) (s .pre .1))))
