@@ -16,8 +16,9 @@ use Rattle.grammar.specs.Calls.{Agree, Follows}
 use Rattle.grammar.specs.declared.Place.the-variants.{Between}
 use Rattle.grammar.specs.declared.Scanner.{Scanner}
 use Rattle.grammar.proofs.Demand3 as grammar
+use Rattle.grammar.proofs.Leads.{leads}
 use Rattle.bridge.specs.Calls.{Bridge, Lent, Given, effect, answerOf}
-use Rattle.bridge.specs.Demands.{isRefused, machine, Demand3}
+use Rattle.bridge.specs.Demands.{isRefused, machine, Demand3, ContextFollowed}
 use Rattle.bridge.proofs.View.{placeOf, viewOf}
 use Rattle.bridge.proofs.Agrees.{byte-agrees}
 use Rattle.bridge.proofs.Ways.{Went, refused-for, was-taken, went}
@@ -59,3 +60,6 @@ follows = record {
 
 pub demand-3 : Demand3
 demand-3 = grammar.demand-3 machine view follows
+
+pub context-followed : ContextFollowed
+context-followed = leads machine view follows

@@ -17,6 +17,7 @@ use Rattle.commands.specs.Said.{codesOf, isRejected}
 use Rattle.commands.specs.Plans.{sentBy}
 use Rattle.grammar.specs.Calls.{Machine, Call}
 use Rattle.grammar.specs.Calls as grammar
+use Rattle.grammar.specs.Following.{Leads}
 use Rattle.bridge.specs.Calls.{Bridge, Refusal, Ranges, Samples, Actions, Replies, Waits, Outcome, Taken, Refused, numberOf, Lent, effect, refused, taken, answerOf}
 use Rattle.bridge.specs.Views.{contextOf}
 
@@ -99,3 +100,8 @@ machine = record {
 -- "A start between commands breaks no range and waits for nothing."
 abbrev pub Demand3 : Type 0
 Demand3 = (b : Bridge) → InRange (b .state) → b .state .wait ≡ v.Nothing → (ks : List (Call machine)) → grammar.Demand3 machine b ks
+
+-- THEOREM (proofs/Demand3.antt, `context-followed`): after any such list the context is where the grammar leads by the bytes taken
+-- alone, rejected ones among them; so a writer of command streams can count a packet's bytes without a bridge
+abbrev pub ContextFollowed : Type 0
+ContextFollowed = (b : Bridge) → InRange (b .state) → b .state .wait ≡ v.Nothing → (ks : List (Call machine)) → Leads machine b ks

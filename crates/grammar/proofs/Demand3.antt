@@ -68,10 +68,12 @@ module _ (M : Machine) (view : M .State → Scanner) (F : Follows M view) where
       go false e r = agree (scan (view s) (k .byte)) refl (F .step s (k .byte) (k .lent) (k .fits) g e) r
 
   -- a start that waits for nothing is seen between items
+  pub seen-between : (s : M .State) → M .Idle s → view s ≡ between (M .context s)
+  seen-between s i = λ x. record { context = F .viewed s x; place = F .idle s .0 i x }
+
   traced-start : (s : M .State) → M .Good s → M .Idle s → (ks : List (Call M)) → Traced (scanAll (between (M .context s)) (bytes M (taken M s ks))) (told M (taken M s ks)) (view (final M s ks))
   traced-start s g i ks =
-      let e : view s ≡ between (M .context s) = λ x. record { context = F .viewed s x; place = F .idle s .0 i x } in
-      subst (λ (h : Scanner). Traced (scanAll h (bytes M (taken M s ks))) (told M (taken M s ks)) (view (final M s ks))) e (traced s g ks)
+      subst (λ (h : Scanner). Traced (scanAll h (bytes M (taken M s ks))) (told M (taken M s ks)) (view (final M s ks))) (seen-between s i) (traced s g ks)
 
   pub demand-3 : (s : M .State) → M .Good s → M .Idle s → (ks : List (Call M)) → Demand3 M s ks
   unfolding Traced

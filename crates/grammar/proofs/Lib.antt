@@ -7,4 +7,5 @@ pub mod Divisions
 pub mod Decides
 pub mod Verdicts
 pub mod Demand3
+pub mod Leads
 pub mod Edges

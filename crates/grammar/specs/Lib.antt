@@ -1,6 +1,6 @@
 pub mod Grammar
 pub mod Scanner
 pub mod Verdict
-pub mod Following
 pub mod Calls
+pub mod Following
 pub mod Edges
