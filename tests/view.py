@@ -2,7 +2,7 @@
 """What `view` must write, from the model alone.
 
 python3 tests/view.py target/bin/view tries the arguments and compares the two on the sessions of `vectors` and on random ones; with
-no name it makes the stored session of `view` and its text anew. Text in quotes in the comments is from 01.
+no name it makes the stored session of `view` and `replay`, its text and its transcript anew. Text in quotes in the comments is from 01.
 """
 import pathlib
 import re
@@ -13,7 +13,7 @@ import interfaces
 from interfaces import TABLES
 from model import (COMMON, DIRECTION, I2C, LATCH, LINES, ONE_WIRE, PORT_LINE, SAMPLE, SAMPLE_PORT, SPI, WAIT_IOG, WAIT_MS, WAIT_US,
                    Turn)
-from replay import Ended, LONGEST_SESSION, Run, record
+from replay import Ended, LONGEST_SESSION, Run, record, replay
 from sessions import PARTS, random_session, session
 
 # the names of the list 001, in the order of their codes
@@ -164,6 +164,8 @@ def make():
     (folder / "data").mkdir(exist_ok=True)
     (folder / "data" / "forms.session").write_bytes(stored())
     (folder / "stdout").write_text(view(stored()), encoding="utf-8")
+    (folder.parent / "replay" / "stdin").write_bytes(stored())
+    (folder.parent / "replay" / "stdout").write_bytes(replay(stored()))
 
 # ---- the comparison ----
 
