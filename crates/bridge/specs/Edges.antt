@@ -5,14 +5,14 @@ use mathlib.Core.Path.{_≡_}
 use mathlib.Core.Bool.{false}
 use mathlib.Core.List.{List, [], _∷_}
 use Rattle.wire.specs.Action.{dq}
-use Rattle.signals.specs.Lines.{low, released, sampled, waits}
+use Rattle.lines.specs.Lines.{low, released, sampled, waits}
 use Rattle.packet.specs.Register.{zeros}
 use Rattle.packet.specs.Packet.{registerBytes}
 use Rattle.registers.specs.Registers.{bitsIn}
 use Rattle.registers.specs.declared.State.{State}
 use Rattle.registers.specs.declared.Event.the-variants as e
 use Rattle.registers.specs.declared.Wait.the-variants as v
-use Rattle.signals.specs.OneWire.{defaultTimings}
+use Rattle.one_wire_bus.specs.OneWire.{defaultTimings}
 use Rattle.commands.specs.Events.{effectOf}
 use Rattle.grammar.specs.declared.Verdict.the-variants.{Whole, Open, Wrong}
 use Rattle.bridge.specs.Calls.{Bridge}

@@ -2,7 +2,7 @@
 use mathlib.Core.Path.{_≡_}
 use Rattle.registers.specs.Registers.{protected}
 use Rattle.registers.specs.declared.PortRegister.the-variants as r
-use Rattle.signals.specs.OneWire.{defaultTimings, resetWaits}
+use Rattle.one_wire_bus.specs.OneWire.{defaultTimings, resetWaits}
 
 pub record CommandEdges : Type 0 where
   -- DDRD written FF from 00 is DC

@@ -1,6 +1,2 @@
-pub mod Parts
-pub mod Sizes
-pub mod Waits
-pub mod Images
 pub mod Ways
 pub mod Replays

@@ -10,10 +10,10 @@ use Rattle.bridge.specs.declared.Refusal.the-variants.{Ranges}
 use Rattle.session.specs.declared.replay.Cursor.{Cursor}
 use Rattle.session.specs.declared.replay.Ran.{Ran}
 use Rattle.session.specs.Runs.{Runs}
-use Rattle.export.specs.Image.{stateIn, isState}
-use Rattle.export.specs.Parts.{Stored}
+use Rattle.image.specs.Image.{stateIn, isState}
+use Rattle.image.specs.Parts.{Stored}
 use Rattle.export.specs.Replaying.{Behind, behind, cursorIn, Replays}
-use Rattle.export.proofs.Images.{image-of-state}
+use Rattle.image.proofs.Images.{image-of-state}
 
 mark-is : (b : Bool) → b ≡ not (eqb (cond b 1 0) 0)
 mark-is true = refl

@@ -21,7 +21,7 @@ use Rattle.switch_on.specs.SwitchOn.{switched, switchOf}
 use Rattle.switch_on.specs.declared.Device.{Device}
 use Rattle.switch_on.specs.declared.SwitchedOn.{SwitchedOn}
 use Rattle.records.specs.declared.Refusal as why
-use Rattle.export.specs.Image.{imageSize, imageOf, stateIn, isState}
+use Rattle.image.specs.Image.{imageSize, imageOf, stateIn, isState}
 use Rattle.export.specs.Calls.{Asked, startCall, startGives, stepCall, eventAsked, outcomeNumber, imageAfter, stepAnswered, withoutEvent, stepGives, judgeCall, verdictNumber, placeOf, judgeAnswered, judgeGives, switchCall, switchNumber, switchAnswered, switchGives}
 use Rattle.export.specs.declared.arguments.Asked.the-variants as a
 

@@ -29,7 +29,7 @@ use Rattle.switch_on.specs.declared.Outcome.the-variants as s
 use Rattle.records.specs.Records as r
 use Rattle.records.specs.declared.Refusal as why
 use Rattle.records.specs.declared.Refusal.the-variants.{Kind, FaultBody}
-use Rattle.export.specs.Image.{imageSize, imageOf, stateIn, isState}
+use Rattle.image.specs.Image.{imageSize, imageOf, stateIn, isState}
 pub use Rattle.export.specs.declared.arguments.Asked.{Asked}
 pub use Rattle.export.specs.declared.arguments.Asked.the-variants as a
 

@@ -1,4 +1,2 @@
-pub mod Image
-pub mod Parts
 pub mod Calls
 pub mod Replaying

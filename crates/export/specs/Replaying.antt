@@ -9,7 +9,7 @@ use Rattle.bridge.specs.Calls.{numberOf}
 use Rattle.bridge.specs.declared.Refusal.the-variants.{Ranges}
 use Rattle.session.specs.declared.replay.Cursor.{Cursor}
 use Rattle.session.specs.Runs.{Runs}
-use Rattle.export.specs.Image.{isState}
+use Rattle.image.specs.Image.{isState}
 use Rattle.export.specs.Calls.{bridgeIn}
 
 -- the cursor as C holds it: "the state and five numbers"

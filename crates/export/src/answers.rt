@@ -1,25 +1,15 @@
-// What C gets: the number of an answer, and the state that goes to an image.
+// What C gets: the number of an answer, and the state that then goes to the image.
 ghost use mathlib.Core.Path.{_≡_};
 ghost use lib.ListN.{length};
-ghost use Rattle.export.specs.Image.{imageSize};
-ghost use Rattle.export.specs.Parts.{Stored};
+ghost use Rattle.image.specs.Image.{imageSize};
 ghost use Rattle.export.specs.Calls.{outcomeNumber, imageAfter, verdictNumber, placeOf, switchNumber};
-use crate::encoding;
 use bridge::Outcome;
 use bridge::Stepped;
 use grammar::Verdict;
-use registers::State;
+use image::encoding;
 
 // The number of a call that was taken.
 pub(crate) const TAKEN: u8 = 0;
-
-// The state goes to an image. The caller shows that this has an image's size.
-pub(crate) fn store(image: &mut [u8], s: State)
-    requires { ⌜ length (now image) ≡ imageSize ⌝ }
-    ensures { λ _. ⌜ Stored s (now (image .exit)) ⌝ }
-{
-    encoding::put_image(image, s);
-}
 
 // The number of an answer; the new state of a call that was taken goes to the image.
 pub(crate) fn finish(image: &mut [u8], x: Stepped) -> u8
@@ -31,7 +21,7 @@ pub(crate) fn finish(image: &mut [u8], x: Stepped) -> u8
         Outcome::Taken => {
             let b = x.bridge;
             let s = b.state;
-            store(image, s);
+            encoding::store(image, s);
             TAKEN
         }
         Outcome::Refused(why) => bridge::number(why),

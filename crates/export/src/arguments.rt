@@ -1,11 +1,11 @@
 // What C hands over as numbers: an event, a device, a cursor.
 ghost use mathlib.Core.Path.{_≡_};
 ghost use lib.ListN.{length};
-ghost use Rattle.export.specs.Image.{imageSize};
+ghost use Rattle.image.specs.Image.{imageSize};
 ghost use Rattle.export.specs.Calls.{faultAsked, eventAsked, withoutEvent, deviceOf};
 ghost use Rattle.export.specs.Replaying.{behind, cursorIn};
-use crate::decoding;
 use bridge::Bridge;
+use image::decoding;
 use records::Refusal;
 use registers::Event;
 use registers::Fault;

@@ -6,14 +6,14 @@ ghost use Rattle.export.specs.Replaying.{behind, Replays};
 
 mod answers;
 mod arguments;
-mod decoding;
-mod encoding;
 
 use answers::TAKEN;
 use arguments::Asked;
 use bridge::Bridge;
 use bridge::Judgement;
 use bridge::Refusal;
+use image::decoding;
+use image::encoding;
 
 // The state that every session starts with goes to the image.
 #[no_mangle]
@@ -25,7 +25,7 @@ pub extern "C" fn bridge_factory_start(state: &mut [u8]) -> u8
     }
     let b = switch_on::factory_start();
     let s = b.state;
-    answers::store(state, s);
+    encoding::store(state, s);
     TAKEN
 }
 
@@ -130,7 +130,7 @@ pub extern "C" fn bridge_switch_on<'a>(
     *made = x.actions;
     let b = x.bridge;
     let s = b.state;
-    answers::store(state, s);
+    encoding::store(state, s);
     let o = x.outcome;
     answers::switch_number(o)
 }
@@ -165,6 +165,6 @@ pub extern "C" fn bridge_replay(
     *written = r.written;
     let b = next.bridge;
     let t = b.state;
-    answers::store(state, t);
+    encoding::store(state, t);
     TAKEN
 }

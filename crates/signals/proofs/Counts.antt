@@ -7,12 +7,12 @@ use lib.ListN.{length}
 use Rattle.packet.specs.Register.{byteBits}
 use Rattle.packet.specs.Packet.{width, registerBytes}
 use Rattle.registers.specs.declared.Page.{Page}
-use Rattle.signals.specs.Lines.{each}
-use Rattle.signals.specs.I2c.{i2cWrite, i2cRead}
-use Rattle.signals.specs.OneWire.{wireWrite, wireRead}
+use Rattle.lines.specs.Lines.{each}
+use Rattle.i2c_bus.specs.I2c.{i2cWrite, i2cRead}
+use Rattle.one_wire_bus.specs.OneWire.{wireWrite, wireRead}
 use Rattle.signals.specs.Waveforms.{Waveform, Still, Reinit, ReinitHigh, Line, Port, PortPulse, Pb7Pulse, SampleLine, SamplePort, Start, Stop, WriteI2c, ReadI2c, Exchange, ResetWire, WriteWire, WriteWireBit, WriteWireStrong, ReadWire, ReadWireBit, waveOf}
 use Rattle.signals.specs.Counts.{actionCount}
-use Rattle.signals.proofs.Exchanges.{exchange-length, exchange-most}
+use Rattle.spi_bus.proofs.Exchanges.{exchange-length, exchange-most}
 
 pub action-count : (p : Page) (w : Waveform) (ss : List ℕ) (s : ℕ) → p .size < width → length (p .packet) ≡ registerBytes → length ((waveOf p w ss s) .actions) ≡ actionCount p w
 unfolding waveOf each byteBits i2cWrite i2cRead wireWrite wireRead

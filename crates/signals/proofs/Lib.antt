@@ -1,6 +1,2 @@
--- Laws that the proofs of this crate cite.
-pub mod Rows
-pub mod Exchanges
-pub mod Slots
-pub mod Levels
+-- Laws that the proofs of this crate and of the crates above cite.
 pub mod Counts

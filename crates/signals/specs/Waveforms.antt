@@ -8,10 +8,10 @@ use Rattle.registers.specs.Registers.{highFirst, bitsIn}
 use Rattle.registers.specs.declared.Page.{Page}
 use Rattle.wire.specs.Action.{Action, action, release, driveHigh, samplePort, setLatch, pb7, noLine}
 use Rattle.wire.specs.Sample.{byteAt}
-use Rattle.signals.specs.Lines.{low, high, sampled, levels, byteOf, reinit}
-use Rattle.signals.specs.I2c.{i2cStart, i2cStop, i2cWrite, i2cRead}
-use Rattle.signals.specs.Spi.{exchange}
-use Rattle.signals.specs.OneWire.{resetWaits, writeWaits, readWaits, sampleSlot, wireWrite, wireRead}
+use Rattle.lines.specs.Lines.{low, high, sampled, levels, byteOf, reinit}
+use Rattle.i2c_bus.specs.I2c.{i2cStart, i2cStop, i2cWrite, i2cRead}
+use Rattle.spi_bus.specs.Spi.{exchange}
+use Rattle.one_wire_bus.specs.OneWire.{resetWaits, writeWaits, readWaits, sampleSlot, wireWrite, wireRead}
 pub use Rattle.signals.specs.declared.Waveform.{Waveform}
 pub use Rattle.signals.specs.declared.Waveform.the-variants.{Still, Reinit, ReinitHigh, Line, Port, PortPulse, Pb7Pulse, SampleLine, SamplePort, Start, Stop, WriteI2c, ReadI2c, Exchange, ResetWire, WriteWire, WriteWireBit, WriteWireStrong, ReadWire, ReadWireBit}
 

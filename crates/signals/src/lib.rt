@@ -8,19 +8,12 @@ ghost use Rattle.wire.specs.Sample.{byteAt};
 ghost use Rattle.packet.specs.Register.{register};
 ghost use Rattle.packet.specs.Packet.{width, registerBytes, received};
 ghost use Rattle.registers.specs.Registers.{highFirst, bitsIn};
-ghost use Rattle.signals.specs.Lines.{levels, byteOf};
-ghost use Rattle.signals.specs.Spi.{exchange};
+ghost use Rattle.lines.specs.Lines.{levels, byteOf};
+ghost use Rattle.spi_bus.specs.Spi.{exchange};
 ghost use Rattle.signals.specs.Waveforms.{waveOf};
 ghost use Rattle.signals.specs.Sensed.{senseOf};
 use packet::Register;
 use registers::Page;
-
-mod i2c;
-mod lines;
-mod one_wire;
-pub mod ports;
-mod readings;
-mod spi;
 
 // A waveform by name; a port's value is its whole new register.
 pub enum Waveform {
@@ -102,7 +95,7 @@ fn eight(kept: Register, actions: u8, samples: &[u8], from: usize, high: bool) -
     Sensed {
         used: 8,
         bytes: wire::ACTION_BYTES * actions as usize,
-        byte: readings::byte_of(samples, from, high),
+        byte: lines::readings::byte_of(samples, from, high),
         packet: kept,
     }
 }
@@ -115,7 +108,7 @@ fn exchanged(page: Page, samples: &[u8], from: usize) -> Sensed
     let n = page.size + 1;
     let high = page.config / 4 % 2 == 1;
     let used = n as usize;
-    let received = readings::receive(samples, from, n, high);
+    let received = spi_bus::receive(samples, from, n, high);
     Sensed {
         used,
         bytes: wire::ACTION_BYTES * (1 + 4 * used),
@@ -178,16 +171,16 @@ pub fn write(out: &mut [u8], page: Page, wave: Waveform, samples: &[u8], from: u
         Waveform::Pb7Pulse { unit, wait } => lines::put_pb7_pulse(out, unit, wait),
         Waveform::SampleLine(line) => wire::put_action(out, 0, wire::VERB_SAMPLE_LINE, line, 0),
         Waveform::SamplePort(line) => wire::put_action(out, 0, wire::VERB_SAMPLE_PORT, line, 0),
-        Waveform::Start => i2c::start(out),
-        Waveform::Stop => i2c::stop(out),
-        Waveform::WriteI2c(x) => i2c::write(out, x),
-        Waveform::ReadI2c(answer) => i2c::read(out, answer),
-        Waveform::Exchange => spi::put_exchange(out, page),
-        Waveform::ResetWire => one_wire::reset(out, ts),
-        Waveform::WriteWire(x) => one_wire::write(out, ts, 8, wire::VERB_RELEASE, x),
-        Waveform::WriteWireBit(x) => one_wire::write(out, ts, 1, wire::VERB_RELEASE, x),
-        Waveform::WriteWireStrong(x) => one_wire::write(out, ts, 8, wire::VERB_DRIVE_HIGH, x),
-        Waveform::ReadWire => one_wire::read(out, ts, 8),
-        Waveform::ReadWireBit => one_wire::read(out, ts, 1),
+        Waveform::Start => i2c_bus::start(out),
+        Waveform::Stop => i2c_bus::stop(out),
+        Waveform::WriteI2c(x) => i2c_bus::write(out, x),
+        Waveform::ReadI2c(answer) => i2c_bus::read(out, answer),
+        Waveform::Exchange => spi_bus::put_exchange(out, page),
+        Waveform::ResetWire => one_wire_bus::reset(out, ts),
+        Waveform::WriteWire(x) => one_wire_bus::write(out, ts, 8, wire::VERB_RELEASE, x),
+        Waveform::WriteWireBit(x) => one_wire_bus::write(out, ts, 1, wire::VERB_RELEASE, x),
+        Waveform::WriteWireStrong(x) => one_wire_bus::write(out, ts, 8, wire::VERB_DRIVE_HIGH, x),
+        Waveform::ReadWire => one_wire_bus::read(out, ts, 8),
+        Waveform::ReadWireBit => one_wire_bus::read(out, ts, 1),
     }
 }

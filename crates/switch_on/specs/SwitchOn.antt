@@ -12,8 +12,8 @@ use Rattle.registers.specs.Registers.{i2cSelected, spiSelected}
 use Rattle.registers.specs.declared.Page.{Page}
 use Rattle.registers.specs.declared.State.{State}
 use Rattle.registers.specs.declared.Wait.the-variants as v
-use Rattle.signals.specs.Lines.{high, portActions}
-use Rattle.signals.specs.OneWire.{defaultTimings}
+use Rattle.lines.specs.Lines.{high, portActions}
+use Rattle.one_wire_bus.specs.OneWire.{defaultTimings}
 use Rattle.switch_on.specs.Images.{isGood, usedOf}
 pub use Rattle.switch_on.specs.declared.Device.{Device}
 pub use Rattle.switch_on.specs.declared.Refusal.{Refusal}

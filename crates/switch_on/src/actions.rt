@@ -25,7 +25,7 @@ pub(crate) fn put(out: &mut [u8], page: Page) -> usize
     requires { ⌜ length (bytesOf (onActions page)) ≤ length (now out) ⌝ }
     ensures { λ n. ⌜ Written (now (out .entry)) 0 (bytesOf (onActions page)) (now (out .exit)) n ⌝ }
 {
-    let at = signals::ports::put_ports(
+    let at = lines::ports::put_ports(
         out,
         page.ddrb,
         page.portb,

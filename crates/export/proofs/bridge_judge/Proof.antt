@@ -2,7 +2,7 @@
 use borrow.Author.Needs.{needs}
 use borrow.Author.Tests.{not-true, not-false}
 use mathlib.Core.Path.{sym, _∙_}
-use Rattle.export.proofs.Images.{state-image}
+use Rattle.image.proofs.Images.{state-image}
 use Rattle.export.proofs.Ways.{judge-no-state, judge-refused, judge-judged}
 use Rattle.export.proofs.bridge_judge.Statement.{statement}
 use Rattle.export.proofs.bridge_judge.Tie as tie

@@ -3,7 +3,7 @@ use borrow.Author.Needs.{needs}
 use borrow.Author.Tests.{not-true, not-false}
 use mathlib.Core.Path.{sym, _∙_}
 use Rattle.export.specs.Replaying.{behind}
-use Rattle.export.proofs.Images.{state-image}
+use Rattle.image.proofs.Images.{state-image}
 use Rattle.export.proofs.Replays.{replay-refused, replay-taken}
 use Rattle.export.proofs.bridge_replay.Statement.{statement}
 use Rattle.export.proofs.bridge_replay.Tie as tie

@@ -3,7 +3,7 @@ use borrow.Author.Needs.{needs}
 use mathlib.Core.Path.{_≡_, sym, _∙_}
 use lib.ListN.{length, length-map}
 use Rattle.packet.specs.Packet.{registerBytes}
-use Rattle.signals.proofs.Exchanges.{exchange-length}
+use Rattle.spi_bus.proofs.Exchanges.{exchange-length}
 use Rattle.signals.proofs.exchanged.Statement.{statement}
 use Rattle.signals.proofs.exchanged.Tie as tie
 

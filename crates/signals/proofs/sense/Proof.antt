@@ -5,9 +5,9 @@ use mathlib.Core.List.{List}
 use Prim.Native.Nat.{ℕ}
 use Rattle.packet.specs.Register.{byteBits}
 use Rattle.registers.specs.declared.Page.{Page}
-use Rattle.signals.specs.Lines.{each}
-use Rattle.signals.specs.I2c.{i2cWrite, i2cRead}
-use Rattle.signals.specs.OneWire.{wireWrite, wireRead}
+use Rattle.lines.specs.Lines.{each}
+use Rattle.i2c_bus.specs.I2c.{i2cWrite, i2cRead}
+use Rattle.one_wire_bus.specs.OneWire.{wireWrite, wireRead}
 use Rattle.signals.specs.Waveforms.{Waveform, waveOf}
 use Rattle.signals.specs.Sensed.{Sensed, senseOf}
 use Rattle.signals.proofs.sense.Statement.{statement}

@@ -8,7 +8,7 @@ use Rattle.wire.specs.Action.{bytesOf}
 use Rattle.wire.proofs.Buffers.{written-none}
 use Rattle.registers.specs.declared.Page.{Page}
 use Rattle.signals.specs.Waveforms.{Waveform, waveOf}
-use Rattle.signals.proofs.Rows.{same-written, same-room}
+use Rattle.lines.proofs.Rows.{same-written, same-room}
 use Rattle.signals.proofs.write.Statement.{statement}
 use Rattle.signals.proofs.write.Tie as tie
 

@@ -5,7 +5,7 @@ use mathlib.Core.Path.{ap, _∙_}
 use native.Mathlib.Omega.{arith}
 use lib.ListN.{length}
 use Rattle.wire.proofs.Buffers.{overwrite-length}
-use Rattle.signals.proofs.Rows.{then}
+use Rattle.lines.proofs.Rows.{then}
 use Rattle.switch_on.proofs.actions.put.Statement.{statement}
 use Rattle.switch_on.proofs.actions.put.Tie as tie
 

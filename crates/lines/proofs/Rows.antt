@@ -1,0 +1,99 @@
+-- Laws of rows of actions, one row for each element of a list, of the loops that write them, and of actions written one
+-- after another. Assumes nothing.
+use mathlib.Core.Path.{_≡_, refl, sym, ap, subst, _∙_}
+use mathlib.Core.List.{List, [], _++_}
+use Prim.Native.Nat.{ℕ, suc, _+_, _≤_, _<_}
+use native.Mathlib.Nat.{add-zero}
+use native.Mathlib.Numerals.{add-one}
+use native.Mathlib.Omega.{arith}
+use lib.ListN.{length, getD, drop, drop-of-length-le, length-append}
+use lib.Seq.{drop-cons}
+use Rattle.wire.specs.Action.{Action, bytesOf}
+use Rattle.wire.specs.Buffer.{overwrite, Written}
+use Rattle.wire.proofs.Actions.{bytes-append}
+use Rattle.wire.proofs.Buffers.{overwrite-none, overwrite-length, overwrite-append, written-append}
+use Rattle.lines.specs.Lines.{each}
+
+-- the bytes of the rows of a list's elements from place i on
+abbrev pub rows : (ℕ → List Action) → List ℕ → ℕ → List ℕ
+rows f xs i = bytesOf (each f (drop i xs))
+
+-- the first of those rows, and the rest
+rows-turn : (f : ℕ → List Action) (xs : List ℕ) (i x : ℕ) → i < length xs → getD xs i 0 ≡ x → rows f xs i ≡ bytesOf (f x) ++ rows f xs (i + 1)
+unfolding each
+rows-turn f xs i x h q = rw (add-one, drop-cons xs i 0 h, q) (bytes-append (f x) (each f (drop (suc i) xs)))
+
+-- a loop that has written i rows: what writing the rest from here leaves is what writing all of them from the start leaves
+pub record Owed (f : ℕ → List Action) (xs entry : List ℕ) (start i : ℕ) (now : List ℕ) (at : ℕ) : Type 0 where
+  pub size : length now ≡ length entry
+  pub place : at + length (rows f xs i) ≡ start + length (rows f xs 0)
+  pub bytes : overwrite now at (rows f xs i) ≡ overwrite entry start (rows f xs 0)
+
+pub owed-all : (f : ℕ → List Action) (xs out : List ℕ) (at : ℕ) → Owed f xs out at 0 out at
+owed-all f xs out at = record { size = refl; place = refl; bytes = refl }
+
+pub owed-at : {f : ℕ → List Action} {xs l m : List ℕ} {start at i k : ℕ} → i ≡ k → Owed f xs l start i m at → Owed f xs l start k m at
+owed-at {f} {xs} {l} {m} {start} {at} e o = subst (λ (j : ℕ). Owed f xs l start j m at) e o
+
+-- the next row fits where all of them do
+pub owed-fits : (f : ℕ → List Action) (xs : List ℕ) {l m : List ℕ} {start at i x : ℕ} → Owed f xs l start i m at → i < length xs → getD xs i 0 ≡ x
+    → start + length (bytesOf (each f xs)) ≤ length l → at + length (bytesOf (f x)) ≤ length m
+owed-fits f xs {i = i} {x = x} o h q fit =
+    let e : length (rows f xs i) ≡ length (bytesOf (f x)) + length (rows f xs (i + 1)) = ap length (rows-turn f xs i x h q) ∙ length-append (bytesOf (f x)) (rows f xs (i + 1)) in
+    omega (arith, o .size, o .place, e, fit)
+
+-- a turn of the loop
+pub owed-turn : (f : ℕ → List Action) (xs : List ℕ) {l m n : List ℕ} {start at next i x : ℕ} → Owed f xs l start i m at → i < length xs → getD xs i 0 ≡ x
+    → Written m at (bytesOf (f x)) n next → Owed f xs l start (i + 1) n next
+owed-turn f xs {m = m} {n = n} {at = at} {i = i} {x = x} o h q w =
+    let b = bytesOf (f x) in
+    let r = rows f xs (i + 1) in
+    let s : rows f xs i ≡ b ++ r = rows-turn f xs i x h q in
+    let e : length (rows f xs i) ≡ length b + length r = ap length s ∙ length-append b r in
+    record {
+      size = ap length (w .bytes) ∙ overwrite-length m at b ∙ o .size;
+      place = omega (arith, w .after, o .place, e);
+      bytes = ap (λ (k : ℕ). overwrite n k r) (w .after)
+          ∙ ap (λ (z : List ℕ). overwrite z (at + length b) r) (w .bytes)
+          ∙ overwrite-append m at b r
+          ∙ ap (overwrite m at) (sym s)
+          ∙ o .bytes;
+    }
+
+-- with no row left the loop has written them all
+pub owed-none : (f : ℕ → List Action) (xs : List ℕ) {l m : List ℕ} {start at i : ℕ} → Owed f xs l start i m at → length xs ≤ i
+    → Written l start (bytesOf (each f xs)) m at
+unfolding each
+owed-none f xs {m = m} {at = at} {i = i} o h =
+    let d : drop i xs ≡ [] = drop-of-length-le xs {i = i} h in
+    let e : rows f xs i ≡ [] = ap (λ (r : List ℕ). bytesOf (each f r)) d in
+    record {
+      bytes = sym (overwrite-none m at) ∙ ap (overwrite m at) (sym e) ∙ o .bytes;
+      after = sym (add-zero at) ∙ ap (λ (r : List ℕ). at + length r) (sym e) ∙ o .place;
+    }
+
+-- ONE AFTER ANOTHER
+
+pub then : {l m n xs ys : List ℕ} {at mid next : ℕ} → Written l at xs m mid → Written m mid ys n next → Written l at (xs ++ ys) n next
+then {l} {m} {n} {xs} {ys} {at} v w = written-append l at xs ys v w
+
+pub joined : (as′ bs : List Action) {l m n : List ℕ} {at mid next : ℕ} → Written l at (bytesOf as′) m mid → Written m mid (bytesOf bs) n next → Written l at (bytesOf (as′ ++ bs)) n next
+joined as′ bs v w = rw (bytes-append as′ bs) (then v w)
+
+joined-length : (as′ bs : List Action) → length (bytesOf (as′ ++ bs)) ≡ length (bytesOf as′) + length (bytesOf bs)
+joined-length as′ bs = ap length (bytes-append as′ bs) ∙ length-append (bytesOf as′) (bytesOf bs)
+
+-- where both fit, the first does, and after it the second
+pub first-fits : (as′ bs : List Action) {k : ℕ} → length (bytesOf (as′ ++ bs)) ≤ k → 0 + length (bytesOf as′) ≤ k
+first-fits as′ bs h = omega (arith, joined-length as′ bs, h)
+
+pub second-fits : (as′ bs : List Action) {l m : List ℕ} {mid : ℕ} → length (bytesOf (as′ ++ bs)) ≤ length l → Written l 0 (bytesOf as′) m mid → mid + length (bytesOf bs) ≤ length m
+second-fits as′ bs {l = l} h w = omega (arith, joined-length as′ bs, h, w .after, ap length (w .bytes) ∙ overwrite-length l 0 (bytesOf as′))
+
+-- THE SAME BYTES UNDER ANOTHER NAME
+
+pub same-written : {l m xs ys : List ℕ} {at next : ℕ} → xs ≡ ys → Written l at ys m next → Written l at xs m next
+same-written {l} {m} {at = at} {next = next} e w = subst (λ (zs : List ℕ). Written l at zs m next) (sym e) w
+
+pub same-room : {xs ys : List ℕ} {k : ℕ} → xs ≡ ys → length xs ≤ k → length ys ≤ k
+same-room {k = k} e h = subst (λ (zs : List ℕ). length zs ≤ k) e h

@@ -1,0 +1,34 @@
+// Direction and latch of the ports.
+ghost use Prim.Native.Nat.{_+_, _≤_};
+ghost use mathlib.Core.List.{[], _∷_};
+ghost use lib.ListN.{length};
+ghost use Rattle.wire.specs.Action.{action, bytesOf, setDirection, setLatch};
+ghost use Rattle.wire.specs.Buffer.{Written};
+ghost use Rattle.lines.specs.Lines.{portActions};
+
+// A port's direction and then its latch.
+fn put_port(out: &mut [u8], at: usize, port: u8, direction: u8, latch: u8) -> usize
+    requires { ⌜ at + 8 ≤ length (now out) ⌝ }
+    ensures { λ next. ⌜ Written (now (out .entry)) at (bytesOf (action setDirection port direction ∷ action setLatch port latch ∷ [])) (now (out .exit)) next ⌝ }
+{
+    let a = wire::put_action(out, at, wire::VERB_DIRECTION, port, direction as u16);
+    wire::put_action(out, a, wire::VERB_LATCH, port, latch as u16)
+}
+
+// Direction then latch, for B, C, D, at the start of the unused part of a lent buffer, for which the caller shows the room.
+pub fn put_ports(
+    out: &mut [u8],
+    ddrb: u8,
+    portb: u8,
+    ddrc: u8,
+    portc: u8,
+    ddrd: u8,
+    portd: u8,
+) -> usize
+    requires { ⌜ length (bytesOf (portActions ddrb portb ddrc portc ddrd portd)) ≤ length (now out) ⌝ }
+    ensures { λ n. ⌜ Written (now (out .entry)) 0 (bytesOf (portActions ddrb portb ddrc portc ddrd portd)) (now (out .exit)) n ⌝ }
+{
+    let c = put_port(out, 0, wire::LINE_PORT_B, ddrb, portb);
+    let d = put_port(out, c, wire::LINE_PORT_C, ddrc, portc);
+    put_port(out, d, wire::LINE_PORT_D, ddrd, portd)
+}

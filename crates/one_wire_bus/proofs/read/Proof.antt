@@ -1,0 +1,56 @@
+-- The loop's invariant: what writing the slots that are left leaves is what writing all of them leaves.
+use borrow.Author.Needs.{needs}
+use mathlib.Core.Path.{refl, ap, sym}
+use mathlib.Core.List.{List}
+use Prim.Native.Nat.{ℕ, _-_, _≤_}
+use native.Mathlib.Nat.{zero-add}
+use native.Mathlib.Omega.{arith}
+use Rattle.wire.specs.Action.{Action, bytesOf}
+use Rattle.packet.specs.Register.{zeros}
+use Rattle.one_wire_bus.specs.OneWire.{sampleSlot, wireRead}
+use Rattle.one_wire_bus.specs.declared.Waits.{Waits}
+use Rattle.lines.proofs.Rows.{Owed, owed-all, owed-fits, owed-turn, owed-none, same-written, same-room}
+use Rattle.one_wire_bus.proofs.Slots.{length-zeros}
+use Rattle.one_wire_bus.proofs.read.Statement.{statement}
+use Rattle.one_wire_bus.proofs.read.Tie as tie
+
+abbrev row : Waits → ℕ → List Action
+row w x = sampleSlot w
+
+abbrev Inv-loop : tie.InvT-loop
+Inv-loop out₀ n w at₀ i₀ out at i = (i ≤ n) × Owed (row w) (zeros n) out₀ 0 i out at
+
+abbrev μ-loop : tie.MeasureT-loop
+μ-loop out₀ n w at₀ i₀ out at i = n - i
+
+pub read-spec : {M : Type 1} → statement M
+unfolding wireRead
+read-spec =
+    tie.close
+    (tie.spec
+    Inv-loop
+    μ-loop
+    (λ c. search needs)
+    (λ c. search needs)
+    (λ c. search needs)
+    (λ c κs. search needs)
+    (λ c. (omega arith, owed-all _ _ _ _))
+    (λ c κs.
+    let m = c .before .before in
+    let g = m .before in
+    let s = g .before .before in
+    owed-fits (row (g .group-waits .result)) (zeros (s .args .n)) (m .loop .inv .1) (omega (arith, length-zeros (s .args .n))) refl (rw zero-add (same-room (ap (λ (w : Waits). bytesOf (wireRead w (s .args .n))) (sym (g .group-waits .ensures))) (s .pre))))
+    (λ c. search needs)
+    (λ c. search needs)
+    (λ c.
+    let p = c .before .before in
+    let m = p .before .before .before in
+    let g = m .before in
+    let s = g .before .before in
+    (omega arith, owed-turn (row (g .group-waits .result)) (zeros (s .args .n)) (m .loop .inv .1) (omega (arith, length-zeros (s .args .n))) refl (p .put-slot .ensures)))
+    (λ c. c .before .loop .inv .1 .size)
+    (λ c.
+    let m = c .before in
+    let g = m .before in
+    let s = g .before .before in
+    same-written (ap (λ (w : Waits). bytesOf (wireRead w (s .args .n))) (sym (g .group-waits .ensures))) (owed-none (row (g .group-waits .result)) _ (m .loop .inv .1) (omega (arith, length-zeros (s .args .n))))))

@@ -1,0 +1,109 @@
+// The waveform of SPI, and the packet register that its samples give.
+ghost use mathlib.Core.Path.{_≡_};
+ghost use Prim.Native.Nat.{_+_, _≤_, _<_};
+ghost use lib.ListN.{length};
+ghost use Rattle.wire.specs.Action.{bytesOf};
+ghost use Rattle.wire.specs.Buffer.{Written};
+ghost use Rattle.packet.specs.Register.{register};
+ghost use Rattle.packet.specs.Packet.{width, registerBytes, sent, received};
+ghost use Rattle.lines.specs.Lines.{each, levels};
+ghost use Rattle.spi_bus.specs.Spi.{spiBit, exchange};
+use lines::readings;
+use packet::Register;
+use registers::Page;
+
+const SAMPLE: u8 = wire::VERB_SAMPLE_LINE;
+
+const HIGH: u8 = wire::VERB_DRIVE_HIGH;
+
+const SCK: u8 = wire::LINE_SCK;
+
+const MOSI: u8 = wire::LINE_MOSI;
+
+const MISO: u8 = wire::LINE_MISO;
+
+// One bit exchanged: with CPHA 0 the sample stands before the clock's return, with CPHA 1 after it.
+fn put_bit(out: &mut [u8], at: usize, polarity: u8, phase: bool, bit: u8) -> usize
+    requires { ⌜ (at + 16 ≤ length (now out)) × ((polarity < 2) × (bit < 2)) ⌝ }
+    ensures { λ next. ⌜ Written (now (out .entry)) at (bytesOf (spiBit polarity phase bit)) (now (out .exit)) next ⌝ }
+{
+    let away = lines::verb_for(HIGH, 1 - polarity);
+    let back = lines::verb_for(HIGH, polarity);
+    let data = lines::verb_for(HIGH, bit);
+    if phase {
+        let a = wire::put_action(out, at, away, SCK, 0);
+        let b = wire::put_action(out, a, data, MOSI, 0);
+        let c = wire::put_action(out, b, back, SCK, 0);
+        return wire::put_action(out, c, SAMPLE, MISO, 0);
+    }
+    let d = wire::put_action(out, at, data, MOSI, 0);
+    let e = wire::put_action(out, d, away, SCK, 0);
+    let f = wire::put_action(out, e, SAMPLE, MISO, 0);
+    wire::put_action(out, f, back, SCK, 0)
+}
+
+// N bits exchanged: whole bytes, eight bits each, and then those that are left.
+fn put_bits(
+    out: &mut [u8],
+    at: usize,
+    r: Register,
+    n: u8,
+    high: bool,
+    polarity: u8,
+    phase: bool,
+) -> usize
+    requires { ⌜ (n ≤ width) × ((polarity < 2) × (at + length (bytesOf (each (spiBit polarity phase) (sent n high r))) ≤ length (now out))) ⌝ }
+    ensures { λ next. ⌜ Written (now (out .entry)) at (bytesOf (each (spiBit polarity phase) (sent n high r))) (now (out .exit)) next ⌝ }
+{
+    let mut next = at;
+    let mut i: u8 = 0;
+    while 8 <= n - i {
+        let byte = packet::byte_to_send(r, i, high);
+        let mut j: u8 = 0;
+        while j < 8 {
+            let bit = packet::bit_of_byte(byte, j, high);
+            next = put_bit(out, next, polarity, phase, bit);
+            j += 1;
+        }
+        i += 8;
+    }
+    while i < n {
+        let bit = packet::bit_within(r, i, high);
+        next = put_bit(out, next, polarity, phase, bit);
+        i += 1;
+    }
+    next
+}
+
+// An exchange of N bits: SCK to CPOL, then the bits. The caller shows that the size register is in range and that the actions fit.
+pub fn put_exchange(out: &mut [u8], page: Page) -> usize
+    requires { ⌜ (page .size < width) × (length (bytesOf (exchange page)) ≤ length (now out)) ⌝ }
+    ensures { λ n. ⌜ Written (now (out .entry)) 0 (bytesOf (exchange page)) (now (out .exit)) n ⌝ }
+{
+    let r = page.packet;
+    let n = page.size + 1;
+    let phase = page.config % 2 == 1;
+    let polarity = page.config / 2 % 2;
+    let high = page.config / 4 % 2 == 1;
+    let at = wire::put_action(out, 0, lines::verb_for(HIGH, polarity), SCK, 0);
+    put_bits(out, at, r, n, high, polarity, phase)
+}
+
+// The packet register after n levels were received: the lowest byte has the last eight in order, and so on upward.
+// The caller shows that the register has so many bits and that the mark is not past the samples' end.
+pub fn receive(samples: &[u8], from: usize, n: u8, high: bool) -> Register
+    requires { ⌜ (n ≤ width) × (from ≤ length (now samples)) ⌝ }
+    ensures { λ q. ⌜ q ≡ register registerBytes (received width high (levels (now (samples .entry)) from n)) ⌝ }
+{
+    let mut q = [0u8; packet::BYTES];
+    let mut i: usize = packet::BYTES;
+    let mut end = n;
+    while 0 < i {
+        i -= 1;
+        let first = packet::above_byte(end);
+        let b = readings::number_of(samples, from, n, first, end, high);
+        q[i] = b;
+        end = first;
+    }
+    q
+}
