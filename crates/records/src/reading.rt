@@ -22,7 +22,7 @@ pub enum Record {
 }
 
 // 16 bits of two bytes.
-fn joined(low: u8, high: u8) -> usize
+pub fn joined(low: u8, high: u8) -> usize
     ensures { λ n. ⌜ (n ≡ low + 256 * high) × (n < 65536) ⌝ }
 {
     low as usize + 256 * (high as usize)

@@ -4,6 +4,7 @@ ghost use Prim.Native.Nat.{_<_};
 use input::Input;
 use libc::STDERR_FILENO;
 use libc::STDOUT_FILENO;
+use records::reading::joined;
 use script::Stop;
 
 fn to_go_on() -> bool {
@@ -60,18 +61,12 @@ fn show(text: &[u8]) {
     }
 }
 
-fn word(low: u8, high: u8) -> usize
-    ensures { λ r. ⌜ r < 65536 ⌝ }
-{
-    low as usize + 256 * (high as usize)
-}
-
 // Every script of the file; one that is cut short is the last.
 fn show_all(file: &[u8]) {
     let mut at: usize = 0;
     while 2 <= file.len() - at {
         let from = at + 2;
-        let size = word(file[at], file[at + 1]);
+        let size = joined(file[at], file[at + 1]);
         if file.len() - from < size {
             say(b"cut short\n");
             return;

@@ -1,4 +1,5 @@
 // The actions of an event, as a replay writes them.
+use records::reading::joined;
 use wire::ACTION_BYTES;
 use wire::VERB_SAMPLE_LINE;
 use wire::VERB_SAMPLE_PORT;
@@ -26,10 +27,6 @@ pub(crate) fn no_action() -> Action {
     }
 }
 
-fn joined(low: u8, high: u8) -> u16 {
-    low as u16 + 256 * (high as u16)
-}
-
 // The action at a place; there is none past the end.
 pub(crate) fn action_at(actions: &[u8], at: usize) -> Action {
     if actions.len() <= at {
@@ -41,7 +38,7 @@ pub(crate) fn action_at(actions: &[u8], at: usize) -> Action {
     Action {
         verb: actions[at],
         line: actions[at + 1],
-        value: joined(actions[at + 2], actions[at + 3]),
+        value: joined(actions[at + 2], actions[at + 3]) as u16,
     }
 }
 

@@ -1,6 +1,8 @@
 // What a dump shows: nine lines and the direction and latch registers of three ports, and when they change.
+use crate::text::put_bits;
+use crate::text::put_level;
+use crate::text::put_register;
 use crate::text::put_time;
-use crate::text::put_value;
 
 // How many lines there are; the variables after them are registers.
 pub(crate) const LINES: usize = 9;
@@ -25,11 +27,11 @@ const IDENTIFIERS: [u8; VARIABLES] = [
     b'O',
 ];
 
-// The variables from which on nothing is shown, the level of a line that nobody drives, which lines are driven, the variables' values
+// Whether registers are written bit by bit, the level of a line that nobody drives, which lines are driven, the variables' values
 // now and as they were last written, the time in microseconds and whether it is written, the place in the session of the next
 // sample, how much text is collected, and whether text could not be written.
 pub(crate) struct Dump {
-    pub(crate) shown: usize,
+    pub(crate) bit_by_bit: bool,
     pub(crate) free: u8,
     pub(crate) driven: [bool; LINES],
     pub(crate) now: [u8; VARIABLES],
@@ -41,13 +43,12 @@ pub(crate) struct Dump {
     pub(crate) broken: bool,
 }
 
-// The start of a dump: the time 0 is written, and no variable, which `x` says. With pull-ups a free line is high, and the registers
-// are left out.
+// The start of a dump: the time 0 is written, and no variable, which `x` says, and FF of a register, since it differs in every bit.
+// With pull-ups a free line is high, and registers are written bit by bit.
 pub(crate) fn start(pull_up: bool) -> Dump {
     let free = if pull_up { b'1' } else { b'z' };
-    let shown = if pull_up { LINES } else { VARIABLES };
     Dump {
-        shown,
+        bit_by_bit: pull_up,
         free,
         driven: [false; LINES],
         now: [
@@ -67,7 +68,23 @@ pub(crate) fn start(pull_up: bool) -> Dump {
             0,
             0,
         ],
-        written: [b'x'; VARIABLES],
+        written: [
+            b'x',
+            b'x',
+            b'x',
+            b'x',
+            b'x',
+            b'x',
+            b'x',
+            b'x',
+            b'x',
+            0xFF,
+            0xFF,
+            0xFF,
+            0xFF,
+            0xFF,
+            0xFF,
+        ],
         time: 0,
         stamped: true,
         sample: 0,
@@ -124,17 +141,23 @@ impl Dump {
         }
         let mut d = self.stamp(text);
         let name = IDENTIFIERS[variable];
+        let old = d.written[variable];
         d.written[variable] = value;
-        d.used = put_value(text, d.used, variable < LINES, value, name);
+        d.used = if variable < LINES {
+            put_level(text, d.used, value, name)
+        } else if d.bit_by_bit {
+            put_bits(text, d.used, old, value, name)
+        } else {
+            put_register(text, d.used, value, name)
+        };
         d
     }
 
     // Writes what changed at this time.
     pub(crate) fn changes(self, text: &mut [u8]) -> Dump {
         let mut d = self;
-        let shown = d.shown;
         let mut k: usize = 0;
-        while k < shown {
+        while k < VARIABLES {
             let next = d.change(k, text);
             d = next;
             k += 1;

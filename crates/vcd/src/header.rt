@@ -13,7 +13,7 @@ fn write_comment(pull_up: bool) {
     if pull_up {
         io::write_all(
             STDOUT_FILENO,
-            b"A released line is 1. Around a sample it has the level sampled. The ports are left out.\n",
+            b"A released line is 1. Around a sample it has the level sampled. The ports are shown bit by bit.\n",
         );
     } else {
         io::write_all(
@@ -54,13 +54,37 @@ fn write_registers() {
     );
 }
 
-// Everything before the first values. With pull-ups the registers are left out, since some readers take no value of more than one
-// bit.
+// A register's bits, each with the register's identifier and its number.
+fn write_bits(name: &[u8], identifier: u8) {
+    let mut number = b'0';
+    while number < b'8' {
+        io::write_all(STDOUT_FILENO, b"$var wire 1 ");
+        io::write_all(STDOUT_FILENO, &[identifier, number, b' ']);
+        io::write_all(STDOUT_FILENO, name);
+        io::write_all(STDOUT_FILENO, &[number]);
+        io::write_all(STDOUT_FILENO, b" $end\n");
+        number += 1;
+    }
+}
+
+fn write_register_bits() {
+    write_bits(b"DDRB", b'J');
+    write_bits(b"PORTB", b'K');
+    write_bits(b"DDRC", b'L');
+    write_bits(b"PORTC", b'M');
+    write_bits(b"DDRD", b'N');
+    write_bits(b"PORTD", b'O');
+}
+
+// Everything before the first values. With pull-ups the registers are written bit by bit, since some readers take no value of more
+// than one bit.
 fn write_header(pull_up: bool) {
     write_comment(pull_up);
     io::write_all(STDOUT_FILENO, b"$scope module bridge $end\n");
     write_lines();
-    if !pull_up {
+    if pull_up {
+        write_register_bits();
+    } else {
         write_registers();
     }
     io::write_all(

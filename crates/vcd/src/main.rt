@@ -21,7 +21,7 @@ const REFUSAL: usize = 0x01FF;
 
 fn goes_on() -> bool {
     input::goes_on(
-        b"usage: vcd [--pull-up] [FILE]\nWrites the session in FILE, or in standard input, as a Value Change Dump to standard output.\n--pull-up shows a released line high and leaves the ports out.\n",
+        b"usage: vcd [--pull-up] [FILE]\nWrites the session in FILE, or in standard input, as a Value Change Dump to standard output.\n--pull-up shows a released line high, and the ports bit by bit.\n",
         b"--pull-up",
     )
 }

@@ -1,7 +1,7 @@
 // The refusal that a session ends with, in the dump and on standard error.
-ghost use Prim.Native.Nat.{_<_};
 use libc::STDERR_FILENO;
 use libc::STDOUT_FILENO;
+use records::reading::joined;
 
 fn write_refusal(fd: i32, number: u8, place: u64) {
     io::write_all(fd, b"refusal ");
@@ -12,18 +12,12 @@ fn write_refusal(fd: i32, number: u8, place: u64) {
     refusals::write_reason(fd, number as usize);
 }
 
-fn word(low: u8, high: u8) -> u64
-    ensures { λ r. ⌜ r < 65536 ⌝ }
-{
-    low as u64 + 256 * (high as u64)
-}
-
 // Says how a session ended, by the body of the record that says so, as a comment of the dump and on standard error.
 pub(crate) fn say_refusal(body: &[u8]) {
     let number = wire::byte_at(body, 0);
-    let low = word(wire::byte_at(body, 2), wire::byte_at(body, 3));
-    let high = word(wire::byte_at(body, 4), wire::byte_at(body, 5));
-    let place = low + 65536 * high;
+    let low = joined(wire::byte_at(body, 2), wire::byte_at(body, 3));
+    let high = joined(wire::byte_at(body, 4), wire::byte_at(body, 5));
+    let place = (low + 65536 * high) as u64;
     io::write_all(STDOUT_FILENO, b"$comment\n");
     write_refusal(STDOUT_FILENO, number, place);
     io::write_all(STDOUT_FILENO, b"\n$end\n");

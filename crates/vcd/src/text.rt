@@ -31,7 +31,7 @@ pub(crate) fn put_time(text: &mut [u8], used: usize, time: u64) -> usize {
 }
 
 // A line's level, `0`, `1` or `z`, with its identifier.
-fn put_level(text: &mut [u8], used: usize, level: u8, identifier: u8) -> usize {
+pub(crate) fn put_level(text: &mut [u8], used: usize, level: u8, identifier: u8) -> usize {
     put(text, used, &[level, identifier, b'\n'])
 }
 
@@ -41,7 +41,7 @@ fn digit(byte: u8) -> u8 {
 }
 
 // A register's byte in binary digits, the high bit first, with its identifier.
-fn put_register(text: &mut [u8], used: usize, byte: u8, identifier: u8) -> usize {
+pub(crate) fn put_register(text: &mut [u8], used: usize, byte: u8, identifier: u8) -> usize {
     let row = [
         b'b',
         digit(byte / 128),
@@ -59,16 +59,25 @@ fn put_register(text: &mut [u8], used: usize, byte: u8, identifier: u8) -> usize
     put(text, used, &row)
 }
 
-// A line's level or a register's byte.
-pub(crate) fn put_value(
-    text: &mut [u8],
-    used: usize,
-    is_line: bool,
-    value: u8,
-    identifier: u8,
-) -> usize {
-    if is_line {
-        return put_level(text, used, value, identifier);
+// A bit of a register if it changed, with the register's identifier and its number.
+fn put_bit(text: &mut [u8], used: usize, old: u8, new: u8, identifier: u8, number: u8) -> usize {
+    if old % 2 == new % 2 {
+        return used;
     }
-    put_register(text, used, value, identifier)
+    put(text, used, &[digit(new), identifier, number, b'\n'])
+}
+
+// The bits of a register that changed, the low one first.
+pub(crate) fn put_bits(text: &mut [u8], used: usize, old: u8, new: u8, identifier: u8) -> usize {
+    let mut end = used;
+    let mut before = old;
+    let mut after = new;
+    let mut number = b'0';
+    while number < b'8' {
+        end = put_bit(text, end, before, after, identifier, number);
+        before /= 2;
+        after /= 2;
+        number += 1;
+    }
+    end
 }

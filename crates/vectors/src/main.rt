@@ -7,6 +7,7 @@ ghost use Prim.Native.Nat.{_<_, _≤_};
 ghost use Rattle.io.specs.Counts.{Counts};
 ghost use Rattle.session.specs.Runs.{left};
 use libc::STDOUT_FILENO;
+use records::reading::joined;
 use session::replay::Cursor;
 
 // Where a comparison stands: the cursor, how many bytes of the stored transcript are left, and whether all were the same.
@@ -101,20 +102,14 @@ fn compare(session: &[u8], stored: usize, fd: i32) -> bool {
     same & (left == 0)
 }
 
-fn word(low: u8, high: u8) -> usize
-    ensures { λ r. ⌜ r < 65536 ⌝ }
-{
-    low as usize + 256 * (high as usize)
-}
-
 // The next vector of the file.
 fn next(fd: i32) -> Shown {
     let mut head = [0u8; 6];
     if io::read_full(fd, &mut head) < 6 {
         return Shown::Nothing;
     }
-    let size = word(head[0], head[1]);
-    let stored = word(head[2], head[3]) + 65536 * word(head[4], head[5]);
+    let size = joined(head[0], head[1]);
+    let stored = joined(head[2], head[3]) + 65536 * joined(head[4], head[5]);
     let mut session = io::large_buffer();
     let n = read_part(fd, &mut session, size);
     let same = compare(&session[..n], stored, fd);

@@ -1,12 +1,7 @@
 // Numbers of two bytes.
 ghost use Prim.Native.Nat.{_<_};
+use records::reading::joined;
 use std::num::wrapping_add_usize;
-
-fn joined(low: u8, high: u8) -> usize
-    ensures { λ n. ⌜ n < 65536 ⌝ }
-{
-    low as usize + 256 * (high as usize)
-}
 
 // 16 bits at a place, low byte first; a byte past the end counts 0.
 pub(crate) fn word(bytes: &[u8], at: usize) -> usize

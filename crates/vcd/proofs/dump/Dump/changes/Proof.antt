@@ -7,10 +7,10 @@ use Rattle.vcd.proofs.dump.Dump.changes.Statement.{statement}
 use Rattle.vcd.proofs.dump.Dump.changes.Tie as tie
 
 abbrev Inv-loop : tie.InvT-loop
-Inv-loop text₀ d₀ shown k₀ text d k = length text ≡ length text₀
+Inv-loop text₀ d₀ k₀ text d k = length text ≡ length text₀
 
 abbrev μ-loop : tie.MeasureT-loop
-μ-loop text₀ d₀ shown k₀ text d k = shown - k
+μ-loop text₀ d₀ k₀ text d k = 15 - k
 
 pub changes-spec : {M : Type 1} → statement M
 changes-spec =
