@@ -3,45 +3,39 @@ ghost use mathlib.Core.Path.{_≡_};
 ghost use Prim.Native.Nat.{_<_};
 ghost use lib.ListN.{set};
 ghost use Rattle.packet.specs.Packet.{width};
-ghost use Rattle.registers.specs.Registers.{holding};
+ghost use Rattle.registers.specs.Registers.{holding, settled};
 ghost use Rattle.commands.specs.Changes.{changed};
 use crate::image::image;
 use commands::Change;
+use registers::Page;
 use registers::PortRegister;
 use registers::State;
 use registers::Wait;
+
+// Reinit, with other flags: all that 01, 02 and 03 change, and a part of 00.
+fn reinit(mut s: State, flags: u8) -> State
+    ensures { λ t. ⌜ t ≡ changed s (Change.Choose flags) ⌝ }
+{
+    s.page.flags = flags;
+    s.page.ddrb = 0;
+    s.page.portb = 0;
+    s.page.ddrc = 0;
+    s.page.portc = 0;
+    s.page.ddrd = 0;
+    s.page.portd = 0;
+    s
+}
 
 // 00: flags but reports and autoload, SPI settings, ERROR and port registers cleared.
 fn reset(mut s: State) -> State
     ensures { λ t. ⌜ t ≡ changed s Change.Reset ⌝ }
 {
     let kept = s.page.flags / 8 % 4 * 8;
-    s.page.flags = kept;
     s.page.error = 0;
-    s.page.ddrb = 0;
-    s.page.portb = 0;
-    s.page.ddrc = 0;
-    s.page.portc = 0;
-    s.page.ddrd = 0;
-    s.page.portd = 0;
     s.page.config = 0;
     s.page.configured = false;
     s.page.size = 0;
-    s
-}
-
-// 01, 02, 03: other flags, port registers cleared.
-fn choose(mut s: State, selected: u8) -> State
-    ensures { λ t. ⌜ t ≡ changed s (Change.Choose selected) ⌝ }
-{
-    s.page.flags = selected;
-    s.page.ddrb = 0;
-    s.page.portb = 0;
-    s.page.ddrc = 0;
-    s.page.portc = 0;
-    s.page.ddrd = 0;
-    s.page.portd = 0;
-    s
+    reinit(s, kept)
 }
 
 // 04: ERROR zero.
@@ -101,14 +95,21 @@ fn settle(s: State) -> State
     wait_for(s, Wait::Nothing, [0; registers::HELD])
 }
 
+// Another page, and nothing waited for or held.
+fn settle_page(mut s: State, page: Page) -> State
+    ensures { λ t. ⌜ t ≡ settled s page ⌝ }
+{
+    s.page = page;
+    settle(s)
+}
+
 // A port register another, and nothing waited for.
-fn store(mut s: State, r: PortRegister, x: u8) -> State
+fn store(s: State, r: PortRegister, x: u8) -> State
     ensures { λ t. ⌜ t ≡ changed s (Change.Store r x) ⌝ }
 {
     let old = s.page;
     let page = registers::ports::store_register(old, r, x);
-    s.page = page;
-    settle(s)
+    settle_page(s, page)
 }
 
 // The IOG count another, and nothing waited for.
@@ -168,9 +169,7 @@ fn load_packet(s: State, at: u8, byte: u8) -> State
     let high = page.config / 4 % 2 == 1;
     let r = packet::load_packet(&held, page.size + 1, high);
     page.packet = r;
-    let mut t = s;
-    t.page = page;
-    settle(t)
+    settle_page(s, page)
 }
 
 // The ninth timing byte: all stored.
@@ -181,9 +180,7 @@ fn load_timings(s: State, at: u8, byte: u8) -> State
     let held = with_byte(old, at, byte);
     let mut page = s.page;
     page.timings = held;
-    let mut t = s;
-    t.page = page;
-    settle(t)
+    settle_page(s, page)
 }
 
 // The state with a change made. The caller shows that the size register is in range.
@@ -194,7 +191,7 @@ pub fn apply(s: State, change: Change) -> State
     match change {
         Change::Nothing => s,
         Change::Reset => reset(s),
-        Change::Choose(f) => choose(s, f),
+        Change::Choose(f) => reinit(s, f),
         Change::ClearError => clear_error(s),
         Change::Save => save(s),
         Change::Flags(f) => flags(s, f),

@@ -40,7 +40,7 @@ apply-spec =
     (λ c κs. search needs)
     (λ c. rw (c .enum-told .given .1))
     (λ c. rw (c .before .enum-told2 .given .1) (c .reset .ensures))
-    (λ c. rw (c .before .before .change .given .1) (c .choose .ensures))
+    (λ c. rw (c .before .before .change .given .1) (c .reinit .ensures))
     (λ c. rw (c .before .enum-told3 .given .1) (c .clear-error .ensures))
     (λ c. rw (c .before .enum-told4 .given .1) (c .save .ensures))
     (λ c. rw (c .before .before .change2 .given .1) (c .flags .ensures))

@@ -12,4 +12,4 @@ load-packet-spec =
     (λ c. search needs)
     (λ c κs. search needs)
     (λ c κs. search needs)
-    (λ c. rw (← c .before .before .before .before .before .before .with-byte .ensures, ← c .before .load-packet .ensures) (c .settle .ensures)))
+    (λ c. rw (← c .before .before .before .before .before .before .with-byte .ensures, ← c .before .load-packet .ensures) (c .settle-page .ensures)))

@@ -9,4 +9,4 @@ load-timings-spec =
     (tie.spec
     (λ c κs. search needs)
     (λ c κs. search needs)
-    (λ c. rw (← c .before .before .with-byte .ensures) (c .settle .ensures)))
+    (λ c. rw (← c .before .before .with-byte .ensures) (c .settle-page .ensures)))
