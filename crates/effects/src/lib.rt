@@ -1,4 +1,4 @@
-// The effects: what an event was decided to do, done: the state changed, and the answer kept and sent.
+// The effects of a decision: its change made to the state, and its answer left in ERROR and sent.
 pub mod changes;
 mod image;
 pub mod replies;
