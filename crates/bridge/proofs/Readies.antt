@@ -16,11 +16,11 @@ use Rattle.commands.specs.Plans.{plan, saidOf, received, carriedOut}
 use Rattle.commands.specs.Changes.{changed, decided}
 use Rattle.commands.specs.declared.Decision.{Decision}
 use Rattle.commands.specs.Events.{planOf, effectOf}
-use Rattle.commands.specs.Replies.{replyBytes, Settlement, settlement, settlementOf}
 use Rattle.commands.specs.Plans.{Plan}
-use Rattle.commands.specs.declared.Settled.{Settled}
 use Rattle.commands.proofs.KeptParts.{Kept}
 use Rattle.commands.proofs.Keeps.{plan-keeps}
+use Rattle.effects.specs.Replies.{replyBytes, Settlement, settlement, settlementOf}
+use Rattle.effects.specs.declared.Settled.{Settled}
 use Rattle.bridge.specs.Prepared.{Ready, Prepared}
 
 module _ (s : State) (e : Event) (ss : List ℕ) (m : ℕ) (n : InRange s) where

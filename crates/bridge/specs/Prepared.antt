@@ -9,7 +9,7 @@ use Rattle.registers.specs.declared.Event.{Event}
 use Rattle.signals.specs.Waveforms.{waveOf}
 use Rattle.commands.specs.Plans.{sentBy}
 use Rattle.commands.specs.Events.{effectOf}
-use Rattle.commands.specs.Replies.{replyBytes}
+use Rattle.effects.specs.Replies.{replyBytes}
 pub use Rattle.bridge.specs.declared.preparing.Ready.{Ready}
 
 -- what is ready is the event's effect, and the size register stays in range

@@ -157,7 +157,7 @@ impl Bridge {
         let next = r.state;
         let reply = r.reply;
         signals::write(&mut actions[acted..], page, wave, samples, sampled);
-        commands::sending::put_reply(&mut replies[replied..], next, reply);
+        effects::sending::put_reply(&mut replies[replied..], next, reply);
         accepted(next, r.used, r.size, r.bytes)
     }
 }

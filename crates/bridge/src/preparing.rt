@@ -5,7 +5,7 @@ ghost use lib.ListN.{length};
 ghost use Rattle.registers.specs.Ranges.{InRange};
 ghost use Rattle.commands.specs.Plans.{received};
 ghost use Rattle.bridge.specs.Prepared.{Prepared};
-use commands::Reply;
+use effects::Reply;
 use packet::Register;
 use registers::Event;
 use registers::Page;
@@ -48,17 +48,17 @@ pub fn prepare(s: State, event: Event, samples: &[u8], sampled: usize) -> Ready
 {
     let p = commands::plan_event(s, event);
     let change = p.change;
-    let planned = commands::changes::apply(s, change);
+    let planned = effects::changes::apply(s, change);
     let page = planned.page;
     let wave = p.wave;
     let answer = p.answer;
     let x = signals::sense(page, wave, samples, sampled);
     let packet = x.packet;
     let q = receive(planned, packet);
-    let t = commands::replies::settle(q, answer, x.byte);
+    let t = effects::replies::settle(q, answer, x.byte);
     let state = t.state;
     let reply = t.reply;
-    let size = commands::sending::reply_size(state, reply);
+    let size = effects::sending::reply_size(state, reply);
     Ready {
         page,
         wave,

@@ -7,6 +7,5 @@ pub mod Spi
 pub mod OneWire
 pub mod Events
 pub mod Changes
-pub mod Replies
 pub mod Promises
 pub mod Edges

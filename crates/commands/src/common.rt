@@ -4,7 +4,7 @@ ghost use Rattle.commands.specs.Changes.{decided};
 ghost use Prim.Native.Nat.{_<_};
 ghost use Rattle.registers.specs.Registers.{withPage};
 ghost use Rattle.commands.specs.Plans.{performs};
-ghost use Rattle.commands.specs.Common.{commonOf, flagged, chosenPage, imageTail, imageMark, imageOf, runCommon};
+ghost use Rattle.commands.specs.Common.{commonOf, flagged, chosenPage, runCommon};
 use crate::Answer;
 use crate::Bit;
 use crate::Change;
@@ -17,7 +17,6 @@ use crate::plans::make;
 use crate::plans::returning;
 use crate::plans::sending;
 use registers::Operand;
-use registers::Page;
 use registers::PortRegister;
 use registers::State;
 use registers::Wait;
@@ -70,41 +69,6 @@ fn choose(s: State, flag: u8, wave: Waveform) -> Decision
 {
     let f = s.page.flags / 8 % 4 * 8 + flag;
     decide(s, Change::Choose(f), wave, Answer::Returns(0x00))
-}
-
-// A byte of the image's tail: FF without SPI.
-fn image_tail(flags: u8, x: u8) -> u8
-    ensures { λ r. ⌜ r ≡ imageTail flags x ⌝ }
-{
-    if flags / 2 % 2 == 1 { x } else { 0xFF }
-}
-
-// The byte that says whether SPI is configured.
-fn image_mark(configured: bool) -> u8
-    ensures { λ r. ⌜ r ≡ imageMark configured ⌝ }
-{
-    if configured { 0x08 } else { 0x00 }
-}
-
-// The ten bytes that 05 stores.
-pub(crate) fn image(p: Page) -> [u8; 10]
-    ensures { λ r. ⌜ r ≡ imageOf p ⌝ }
-{
-    let a = image_tail(p.flags, p.config);
-    let b = image_tail(p.flags, p.size);
-    let c = image_tail(p.flags, image_mark(p.configured));
-    [
-        p.flags,
-        p.ddrb,
-        p.portb,
-        p.ddrc,
-        p.portc,
-        p.ddrd,
-        p.portd,
-        a,
-        b,
-        c,
-    ]
 }
 
 // 07 to 0A: a flag set or cleared, 00 returned.

@@ -1,11 +1,10 @@
-// The commands: what an event does to the registers, which waveform it makes, and what it answers.
+// The commands: what an event will change of the registers, which waveform it makes, and what it answers.
 ghost use mathlib.Core.Path.{_≡_};
 ghost use Rattle.commands.specs.Changes.{decided};
 ghost use Rattle.registers.specs.Ranges.{InRange};
 ghost use Rattle.commands.specs.Events.{planOf};
 
 mod bits;
-pub mod changes;
 mod common;
 mod events;
 mod extended;
@@ -13,8 +12,6 @@ mod i2c;
 mod one_wire;
 mod packets;
 mod plans;
-pub mod replies;
-pub mod sending;
 mod spi;
 
 use registers::Event;
@@ -66,25 +63,6 @@ pub struct Decision {
     pub change: Change,
     pub wave: Waveform,
     pub answer: Answer,
-}
-
-// The reply bytes of an event, by name.
-pub enum Reply {
-    Empty,
-    One(u8),
-    Two(u8, u8),
-    Eprom,
-    Serial,
-    Timings,
-    Packet,
-    Low,
-    OneThenLow(u8),
-}
-
-// The state that an event leaves, and what it sends.
-pub struct Settled {
-    pub state: State,
-    pub reply: Reply,
 }
 
 // The common commands by 01's source's names; NoCommon is a byte that is none.

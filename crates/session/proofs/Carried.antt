@@ -17,9 +17,9 @@ use Rattle.registers.specs.declared.Event.{Event}
 use Rattle.signals.specs.Waveforms.{waveOf}
 use Rattle.commands.specs.Plans.{Effect, sentBy}
 use Rattle.commands.specs.Events.{effectOf}
-use Rattle.commands.specs.Replies.{replyBytes}
 use Rattle.commands.specs.Promises.{mostActions, mostReplies, Sized}
 use Rattle.commands.proofs.Bounds.{event-actions, event-replies}
+use Rattle.effects.specs.Replies.{replyBytes}
 use Rattle.bridge.specs.Prepared.{Prepared}
 use Rattle.bridge.specs.declared.preparing.Ready.{Ready}
 use Rattle.records.specs.declared.Refusal.the-variants.{Samples}

@@ -1,0 +1,27 @@
+-- What data leaves and sends, alone or after a code. Assumes nothing.
+use Prim.Native.Nat.{ℕ}
+use mathlib.Core.Path.{_≡_, sym, ap, _∙_}
+use mathlib.Core.Bool.{Bool, cond}
+use mathlib.Core.List.{List, _∷_, map}
+use Rattle.registers.specs.Registers.{reportsOn, withPage, withError}
+use Rattle.registers.specs.declared.State.{State}
+use Rattle.commands.specs.Said.{returned, sent, errorAfter, repliesOf}
+use Rattle.commands.specs.Plans.{settledOf}
+use Rattle.commands.proofs.Choices.{chosen}
+use Rattle.commands.proofs.Sent.{error-sent, replies-sent}
+use Rattle.effects.specs.Replies.{settlement, settlementOf}
+
+module _ (s : State) (xs : List ℕ) where
+  pub all-sent : settlement s xs ≡ settlementOf s (map sent xs)
+  all-sent =
+      ap (λ (e : ℕ). settlement (withPage s (withError (s .page) e)) xs) (sym (error-sent (s .page .error) xs))
+      ∙ ap (λ (r : List ℕ). settlement (settledOf s (map sent xs)) r) (sym (replies-sent (reportsOn (s .page .flags)) xs))
+
+  -- a code and then data, with reports on or off
+  pub coded : (k : ℕ) (on : Bool) → reportsOn (s .page .flags) ≡ on → settlement (withPage s (withError (s .page) k)) (cond on (k ∷ xs) xs) ≡ settlementOf s (returned k ∷ map sent xs)
+  unfolding errorAfter repliesOf
+  coded k on e =
+      let reports = reportsOn (s .page .flags) in
+      ap (λ (x : ℕ). settlement (withPage s (withError (s .page) x)) (cond on (k ∷ xs) xs)) (sym (error-sent k xs))
+      ∙ ap (λ (q : List ℕ). settlement (withPage s (withError (s .page) (errorAfter k (map sent xs)))) q)
+      (chosen reports (k ∷ xs) xs e ∙ ap (λ (r : List ℕ). cond reports (k ∷ r) r) (sym (replies-sent reports xs)))

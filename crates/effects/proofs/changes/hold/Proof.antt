@@ -1,0 +1,12 @@
+-- The byte is held with the others.
+use borrow.Author.Needs.{needs}
+use Rattle.effects.proofs.changes.hold.Statement.{statement}
+use Rattle.effects.proofs.changes.hold.Tie as tie
+
+pub hold-spec : {M : Type 1} → statement M
+hold-spec =
+    tie.close
+    (tie.spec
+    (λ c κs. search needs)
+    (λ c κs. search needs)
+    (λ c. rw (← c .before .with-byte .ensures) (c .wait-for .ensures)))

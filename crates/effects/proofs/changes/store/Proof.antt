@@ -1,0 +1,12 @@
+-- One register of the page another.
+use borrow.Author.Needs.{needs}
+use Rattle.effects.proofs.changes.store.Statement.{statement}
+use Rattle.effects.proofs.changes.store.Tie as tie
+
+pub store-spec : {M : Type 1} → statement M
+store-spec =
+    tie.close
+    (tie.spec
+    (λ c κs. search needs)
+    (λ c κs. search needs)
+    (λ c. rw (← c .before .store-register .ensures) (c .settle-page .ensures)))

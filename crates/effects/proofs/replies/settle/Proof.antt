@@ -1,0 +1,52 @@
+-- Answer by answer, what it leaves and sends.
+use borrow.Author.Needs.{needs}
+use Rattle.effects.proofs.replies.settle.Statement.{statement}
+use Rattle.effects.proofs.replies.settle.Tie as tie
+
+pub settle-spec : {M : Type 1} → statement M
+settle-spec =
+    tie.close
+    (tie.spec
+    (λ c. search needs)
+    (λ c κs. search needs)
+    (λ c. search needs)
+    (λ c κs. search needs)
+    (λ c. search needs)
+    (λ c κs. search needs)
+    (λ c. search needs)
+    (λ c κs. search needs)
+    (λ c. search needs)
+    (λ c κs. search needs)
+    (λ c. search needs)
+    (λ c κs. search needs)
+    (λ c. search needs)
+    (λ c κs. search needs)
+    (λ c. search needs)
+    (λ c κs. search needs)
+    (λ c κs. search needs)
+    (λ c. search needs)
+    (λ c κs. search needs)
+    (λ c. search needs)
+    (λ c κs. search needs)
+    (λ c. search needs)
+    (λ c κs. search needs)
+    (λ c. search needs)
+    (λ c κs. search needs)
+    (λ c. search needs)
+    (λ c κs. search needs)
+    (λ c. search needs)
+    (λ c κs. search needs)
+    (λ c. rw (c .before .enum-told .given .1) (c .send .ensures))
+    (λ c. rw (c .before .before .answer .given .1) (c .store .ensures))
+    (λ c. rw (c .before .enum-told2 .given .1) (c .store-twice .ensures))
+    (λ c. rw (c .before .before .answer2 .given .1) (c .store-and-send .ensures))
+    (λ c. rw (c .before .before .answer3 .given .1) (c .check .ensures))
+    (λ c. rw (c .before .before .answer4 .given .1) (c .send2 .ensures))
+    (λ c. rw (c .before .enum-told3 .given .1) (c .send3 .ensures))
+    (λ c. rw (c .before .before .enum-told4 .given .1, ← c .before .level-byte .ensures) (c .send4 .ensures))
+    (λ c. rw (c .before .enum-told5 .given .1) (c .send5 .ensures))
+    (λ c. rw (c .before .enum-told6 .given .1) (c .send6 .ensures))
+    (λ c. rw (c .before .enum-told7 .given .1) (c .send7 .ensures))
+    (λ c. rw (c .before .enum-told8 .given .1) (c .send8 .ensures))
+    (λ c. rw (c .before .enum-told9 .given .1) (c .send9 .ensures))
+    (λ c. rw (c .before .enum-told10 .given .1) (c .store-then-low .ensures)))

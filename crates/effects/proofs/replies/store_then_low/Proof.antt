@@ -1,0 +1,15 @@
+-- By whether reports are on; data sent leaves ERROR.
+use borrow.Author.Tests.{eq-eqb, ne-eqb}
+use mathlib.Core.Bool.{true, false}
+use Rattle.packet.specs.Packet.{lowBytes}
+use Rattle.registers.specs.Registers.{bitsIn}
+use Rattle.effects.proofs.Settlements.{coded}
+use Rattle.effects.proofs.replies.store_then_low.Statement.{statement}
+use Rattle.effects.proofs.replies.store_then_low.Tie as tie
+
+pub store-then-low-spec : {M : Type 1} → statement M
+store-then-low-spec =
+    tie.close
+    (tie.spec
+    (λ c. coded (c .before .before .before .args .s) (lowBytes (bitsIn (c .before .before .before .args .s .page)) (c .before .before .before .args .s .page .packet)) 0x00 true (eq-eqb _ _ (c .if1 .taken)))
+    (λ c. coded (c .before .before .before .args .s) (lowBytes (bitsIn (c .before .before .before .args .s .page)) (c .before .before .before .args .s .page .packet)) 0x00 false (ne-eqb _ _ (c .if1 .left))))

@@ -1,0 +1,120 @@
+// What an answer leaves in ERROR and sends.
+ghost use mathlib.Core.Path.{_≡_};
+ghost use mathlib.Core.Bool.{cond};
+ghost use lib.Dec.{eqb};
+ghost use mathlib.Core.List.{[], _∷_, map};
+ghost use Rattle.commands.specs.Said.{returned, sent, returnedAndSent};
+ghost use Rattle.commands.specs.Plans.{saidOf};
+ghost use Rattle.effects.specs.Replies.{replyBytes, settlement, settlementOf};
+use crate::Reply;
+use crate::Settled;
+use commands::Answer;
+use registers::State;
+
+// Data sent: ERROR stays.
+fn send(s: State, reply: Reply) -> Settled
+    ensures { λ r. ⌜ settlement (r .state) (replyBytes (r .state) (r .reply)) ≡ settlementOf s (map sent (replyBytes s reply)) ⌝ }
+{
+    Settled { state: s, reply }
+}
+
+// A code returned: stored, and sent with reports on.
+fn store(mut s: State, code: u8) -> Settled
+    ensures { λ r. ⌜ settlement (r .state) (replyBytes (r .state) (r .reply)) ≡ settlementOf s (returned code ∷ []) ⌝ }
+{
+    s.page.error = code;
+    if s.page.flags / 8 % 2 == 1 {
+        return Settled {
+            state: s,
+            reply: Reply::One(code),
+        };
+    }
+    Settled {
+        state: s,
+        reply: Reply::Empty,
+    }
+}
+
+// The codes of a load and of its exchange.
+fn store_twice(mut s: State) -> Settled
+    ensures { λ r. ⌜ settlement (r .state) (replyBytes (r .state) (r .reply)) ≡ settlementOf s (returned 0 ∷ returned 0 ∷ []) ⌝ }
+{
+    s.page.error = 0x00;
+    if s.page.flags / 8 % 2 == 1 {
+        return Settled {
+            state: s,
+            reply: Reply::Two(0x00, 0x00),
+        };
+    }
+    Settled {
+        state: s,
+        reply: Reply::Empty,
+    }
+}
+
+// A code returned and sent whatever the reports.
+fn store_and_send(mut s: State, code: u8) -> Settled
+    ensures { λ r. ⌜ settlement (r .state) (replyBytes (r .state) (r .reply)) ≡ settlementOf s (returnedAndSent code ∷ []) ⌝ }
+{
+    s.page.error = code;
+    Settled {
+        state: s,
+        reply: Reply::One(code),
+    }
+}
+
+// The code of an exchange, and then the low bytes of the packet register.
+fn store_then_low(mut s: State, x: u8) -> Settled
+    ensures { λ r. ⌜ settlement (r .state) (replyBytes (r .state) (r .reply)) ≡ settlementOf s (saidOf s x Answer.ReturnsThenLow) ⌝ }
+{
+    s.page.error = 0x00;
+    if s.page.flags / 8 % 2 == 1 {
+        return Settled {
+            state: s,
+            reply: Reply::OneThenLow(0x00),
+        };
+    }
+    Settled {
+        state: s,
+        reply: Reply::Low,
+    }
+}
+
+// 00 for a low sample, else a code.
+fn check(s: State, x: u8, code: u8) -> Settled
+    ensures { λ r. ⌜ settlement (r .state) (replyBytes (r .state) (r .reply)) ≡ settlementOf s (saidOf s x (Answer.Checked code)) ⌝ }
+{
+    if x != 0 {
+        return store(s, code);
+    }
+    store(s, 0x00)
+}
+
+// 0F for a low sample, 8F for a high one.
+fn level_byte(x: u8) -> u8
+    ensures { λ r. ⌜ r ≡ cond (eqb x 0) 0x0F 0x8F ⌝ }
+{
+    if x == 0 { 0x0F } else { 0x8F }
+}
+
+// What an answer leaves and sends, where the samples gave x.
+pub fn settle(s: State, answer: Answer, x: u8) -> Settled
+    ensures { λ r. ⌜ settlement (r .state) (replyBytes (r .state) (r .reply)) ≡ settlementOf s (saidOf s x answer) ⌝ }
+{
+    match answer {
+        Answer::Silent => send(s, Reply::Empty),
+        Answer::Returns(code) => store(s, code),
+        Answer::ReturnsTwice => store_twice(s),
+        Answer::ReturnsAndSends(code) => store_and_send(s, code),
+        Answer::Checked(code) => check(s, x, code),
+        Answer::Sends(v) => send(s, Reply::One(v)),
+        Answer::SendsSample => send(s, Reply::One(x)),
+        Answer::SendsLevel => send(s, Reply::One(level_byte(x))),
+        Answer::SendsEprom => send(s, Reply::Eprom),
+        Answer::SendsSerial => send(s, Reply::Serial),
+        Answer::SendsTimings => send(s, Reply::Timings),
+        Answer::SendsPacket => send(s, Reply::Packet),
+        Answer::SendsLow => send(s, Reply::Low),
+        Answer::ReturnsThenLow => store_then_low(s, x),
+    }
+}
