@@ -43,6 +43,17 @@ pub(crate) struct Dump {
     pub(crate) broken: bool,
 }
 
+// One value for all lines and one for all registers.
+fn all(line: u8, register: u8) -> [u8; VARIABLES] {
+    let mut values = [register; VARIABLES];
+    let mut k: usize = 0;
+    while k < LINES {
+        values[k] = line;
+        k += 1;
+    }
+    values
+}
+
 // The start of a dump: the time 0 is written, and no variable, which `x` says, and FF of a register, since it differs in every bit.
 // With pull-ups a free line is high, and registers are written bit by bit.
 pub(crate) fn start(pull_up: bool) -> Dump {
@@ -51,40 +62,8 @@ pub(crate) fn start(pull_up: bool) -> Dump {
         bit_by_bit: pull_up,
         free,
         driven: [false; LINES],
-        now: [
-            free,
-            free,
-            free,
-            free,
-            free,
-            free,
-            free,
-            free,
-            free,
-            0,
-            0,
-            0,
-            0,
-            0,
-            0,
-        ],
-        written: [
-            b'x',
-            b'x',
-            b'x',
-            b'x',
-            b'x',
-            b'x',
-            b'x',
-            b'x',
-            b'x',
-            0xFF,
-            0xFF,
-            0xFF,
-            0xFF,
-            0xFF,
-            0xFF,
-        ],
+        now: all(free, 0x00),
+        written: all(b'x', 0xFF),
         time: 0,
         stamped: true,
         sample: 0,
