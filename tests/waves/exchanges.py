@@ -3,16 +3,17 @@
 ROUNDS = 3
 
 def spi_scripts():
-    return [spi_script(config) for config in range(8)]
+    return [spi_script(config, unselected) for unselected in (True, False) for config in range(8)]
 
-def spi_script(config):
-    """Exchanges of 16 bits. The one before the loop, with SS high, puts SCK to its idle level."""
+def spi_script(config, unselected):
+    """Exchanges of 16 bits, with one before them while SS is high or without."""
     order = "high" if config & 4 else "low"
-    lines = ["EnableReports", "InterfaceChoiceSPI", f"LoadConfig_SPI {config:02X}", "LoadPaketSize_SPI 10",
-             "samples 00 x 16", "StartChange_SPI", "ClearSS_SPI"]
+    lines = ["EnableReports", "InterfaceChoiceSPI", f"LoadConfig_SPI {config:02X}", "LoadPaketSize_SPI 10"]
+    lines += ["samples 00 x 16", "StartChange_SPI"] * unselected + ["ClearSS_SPI"]
     for k in range(ROUNDS):
         lines += exchange(config, k)
-    return f"spi_mode{config & 3}_{order}_first", "\n".join(lines + ["SetSS_SPI", ""])
+    name = f"spi_mode{config & 3}_{order}_first" + "_at_once" * (not unselected)
+    return name, "\n".join(lines + ["SetSS_SPI", ""])
 
 def exchange(config, k):
     out, level = [mixed(config, k, place) for place in (0, 1)], mixed(config, k, 2) << 8 | mixed(config, k, 3)

@@ -55,7 +55,7 @@ def compare(name, text, folder, given):
     decoder, rows, want = wanted(session.read_bytes())
     said = decoded(waveform, decoder, rows)
     same = said == want and len(want) > 0
-    print(f"{name:24} {decoder.split(':')[0]:13} {len(want):4} wanted {len(said):4} decoded, {'same' if same else 'DIFFER'}")
+    print(f"{name:30} {decoder.split(':')[0]:13} {len(want):4} wanted {len(said):4} decoded, {'same' if same else 'DIFFER'}")
     if not same:
         print(f"  wanted:  {', '.join(want)}\n  decoded: {', '.join(said)}")
     return same

@@ -1,6 +1,8 @@
 // The actions of an event, as a replay writes them.
 use records::reading::joined;
 use wire::ACTION_BYTES;
+use wire::VERB_DRIVE_HIGH;
+use wire::VERB_DRIVE_LOW;
 use wire::VERB_SAMPLE_LINE;
 use wire::VERB_SAMPLE_PORT;
 use wire::VERB_WAIT_CYCLES;
@@ -61,6 +63,16 @@ pub(crate) fn wait_of(a: Action) -> u64 {
         VERB_WAIT_MILLISECONDS => value * 1000,
         VERB_WAIT_CYCLES => value,
         _ => 0,
+    }
+}
+
+// The level that an action drives its line to; `z` of one that drives none.
+pub(crate) fn driven_level(a: Action) -> u8 {
+    let verb = a.verb;
+    match verb {
+        VERB_DRIVE_LOW => b'0',
+        VERB_DRIVE_HIGH => b'1',
+        _ => b'z',
     }
 }
 

@@ -9,6 +9,8 @@ pub(crate) const LINES: usize = 9;
 
 const VARIABLES: usize = 15;
 
+const SCK: usize = wire::LINE_SCK as usize;
+
 const IDENTIFIERS: [u8; VARIABLES] = [
     b'A',
     b'B',
@@ -27,12 +29,13 @@ const IDENTIFIERS: [u8; VARIABLES] = [
     b'O',
 ];
 
-// Whether registers are written bit by bit, the level of a line that nobody drives, which lines are driven, the variables' values
-// now and as they were last written, the time in microseconds and whether it is written, the place in the session of the next
-// sample, how much text is collected, and whether text could not be written.
+// Whether registers are written bit by bit, the level of a line that nobody drives and that of SCK before it is driven, which lines
+// are driven, the variables' values now and as they were last written, the time in microseconds and whether it is written, the place
+// in the session of the next sample, how much text is collected, and whether text could not be written.
 pub(crate) struct Dump {
     pub(crate) bit_by_bit: bool,
     pub(crate) free: u8,
+    pub(crate) clock: u8,
     pub(crate) driven: [bool; LINES],
     pub(crate) now: [u8; VARIABLES],
     pub(crate) written: [u8; VARIABLES],
@@ -55,12 +58,13 @@ fn all(line: u8, register: u8) -> [u8; VARIABLES] {
 }
 
 // The start of a dump: the time 0 is written, and no variable, which `x` says, and FF of a register, since it differs in every bit.
-// With pull-ups a free line is high, and registers are written bit by bit.
-pub(crate) fn start(pull_up: bool) -> Dump {
+// With pull-ups a free line is high, SCK as its clock begins, and registers are written bit by bit.
+pub(crate) fn start(pull_up: bool, clock: u8) -> Dump {
     let free = if pull_up { b'1' } else { b'z' };
-    Dump {
+    let d = Dump {
         bit_by_bit: pull_up,
         free,
+        clock,
         driven: [false; LINES],
         now: all(free, 0x00),
         written: all(b'x', 0xFF),
@@ -69,10 +73,16 @@ pub(crate) fn start(pull_up: bool) -> Dump {
         sample: 0,
         used: 0,
         broken: false,
-    }
+    };
+    d.set(SCK, clock)
 }
 
 impl Dump {
+    // The level of a line that nobody drives.
+    pub(crate) fn free_level(self, line: usize) -> u8 {
+        if line == SCK { self.clock } else { self.free }
+    }
+
     pub(crate) fn is_driven(self, line: usize) -> bool {
         if line < LINES {
             return self.driven[line];

@@ -13,7 +13,7 @@ fn write_comment(pull_up: bool) {
     if pull_up {
         io::write_all(
             STDOUT_FILENO,
-            b"A released line is 1. Around a sample it has the level sampled. The ports are shown bit by bit.\n",
+            b"A released line is 1, and SCK before its first exchange as that begins. Around a sample a line has the level sampled.\nThe ports are shown bit by bit.\n",
         );
     } else {
         io::write_all(
@@ -94,9 +94,9 @@ fn write_header(pull_up: bool) {
 }
 
 // The dump up to the first values.
-pub(crate) fn begin(pull_up: bool, text: &mut [u8]) -> Dump {
+pub(crate) fn begin(pull_up: bool, clock: u8, text: &mut [u8]) -> Dump {
     write_header(pull_up);
-    let mut d = dump::start(pull_up).changes(text);
+    let mut d = dump::start(pull_up, clock).changes(text);
     d.used = put(text, d.used, b"$end\n");
     d
 }

@@ -4,17 +4,15 @@ mod actions;
 mod dump;
 mod header;
 mod refusal;
+mod step;
 mod text;
 mod waveform;
 
 use dump::Dump;
 use input::Input;
-use records::reading::Record;
-use records::reading::record_at;
+use step::ACTIONS;
 
-// The kinds of a replay's records that the dump shows.
-const ACTIONS: usize = 0x0102;
-
+// The kinds of a replay's records that the dump shows beside actions.
 const LAST: usize = 0x0104;
 
 const REFUSAL: usize = 0x01FF;
@@ -52,28 +50,42 @@ fn show_record(d: Dump, kind: usize, body: &[u8], session: &[u8], text: &mut [u8
     }
 }
 
-// What a step of the replay wrote: actions are its first record, and the last record and a refusal its only one.
 fn show_step(d: Dump, records: &[u8], session: &[u8], text: &mut [u8]) -> Dump {
-    let Record::Body { kind, start, end } = record_at(records, 0) else {
-        return d;
-    };
-    if end < start {
-        return d;
+    let r = step::first(records);
+    let start = r.start;
+    let end = r.end;
+    let shown = show_record(d, r.kind, &records[start..end], session, text);
+    send(shown, text)
+}
+
+// The level that SCK is first driven to, high if it never is: with pull-ups it is shown from the start on, so that the first
+// exchange has no edge too many.
+fn first_clock(session: &[u8]) -> u8 {
+    let mut records = io::buffer();
+    let mut cursor = session::replay::start();
+    while !cursor.done {
+        let r = session::replay::advance(cursor, session, &mut records);
+        let n = r.written;
+        let next = r.cursor;
+        cursor = next;
+        let level = step::clock(&records[..n]);
+        if level != b'z' {
+            return level;
+        }
     }
-    if records.len() < end {
-        return d;
-    }
-    send(
-        show_record(d, kind, &records[start..end], session, text),
-        text,
-    )
+    b'1'
+}
+
+fn clock_at_start(session: &[u8], pull_up: bool) -> u8 {
+    if pull_up { first_clock(session) } else { b'z' }
 }
 
 // Each step of the replay by itself, since the dump goes by events.
 fn write_dump(session: &[u8], pull_up: bool) {
     let mut text = io::large_buffer();
     let mut records = io::buffer();
-    let mut d = header::begin(pull_up, &mut text);
+    let clock = clock_at_start(session, pull_up);
+    let mut d = header::begin(pull_up, clock, &mut text);
     let mut cursor = session::replay::start();
     while !cursor.done {
         let from = d.at_sample(cursor.sample);

@@ -3,6 +3,7 @@ ghost use Prim.Native.Nat.{_<_, _≤_};
 use crate::actions::Action;
 use crate::actions::NEAR;
 use crate::actions::action_at;
+use crate::actions::driven_level;
 use crate::actions::is_sample;
 use crate::actions::is_sampled;
 use crate::actions::is_wait;
@@ -37,7 +38,7 @@ fn settle(d: Dump, line: usize, actions: &[u8], session: &[u8]) -> Dump {
     if is_sampled(actions, line) {
         return d.set(line, next_level(d, session));
     }
-    d.set(line, d.free)
+    d.set(line, d.free_level(line))
 }
 
 // The same of every line, for the start of an event and, with no actions ahead, for its end.
@@ -54,8 +55,7 @@ fn settle_all(d: Dump, actions: &[u8], session: &[u8]) -> Dump {
 
 fn drive(d: Dump, a: Action) -> Dump {
     let line = a.line as usize;
-    let level = if a.verb == VERB_DRIVE_LOW { b'0' } else { b'1' };
-    d.drive(line, true).set(line, level)
+    d.drive(line, true).set(line, driven_level(a))
 }
 
 fn release(d: Dump, a: Action, rest: &[u8], session: &[u8]) -> Dump {
@@ -118,7 +118,8 @@ fn wait(
     let rest = length - first;
     let last = near(d, rest, after);
     let middle = rest - last;
-    let e = set_near(d.go(first, text), first, before, d.free);
+    let free = d.free_level(before.line as usize);
+    let e = set_near(d.go(first, text), first, before, free);
     let f = set_near(e.go(middle, text), last, after, next_level(e, session));
     f.go(last, text)
 }

@@ -9,10 +9,10 @@ use Rattle.vcd.proofs.write_dump.Statement.{statement}
 use Rattle.vcd.proofs.write_dump.Tie as tie
 
 abbrev Inv-loop : tie.InvT-loop
-Inv-loop session pull-up text₀ records₀ d₀ cursor₀ text records d cursor = (65536 ≡ length text) × (4096 ≡ length records)
+Inv-loop session pull-up text₀ records₀ clock d₀ cursor₀ text records d cursor = (65536 ≡ length text) × (4096 ≡ length records)
 
 abbrev μ-loop : tie.MeasureT-loop
-μ-loop session pull-up text₀ records₀ d₀ cursor₀ text records d cursor = left session cursor
+μ-loop session pull-up text₀ records₀ clock d₀ cursor₀ text records d cursor = left session cursor
 
 pub write-dump-spec : {M : Type 1} → statement M
 write-dump-spec =
@@ -20,6 +20,7 @@ write-dump-spec =
     (tie.spec
     Inv-loop
     μ-loop
+    (λ c κs. search needs)
     (λ c κs. search needs)
     (λ c κs. search needs)
     (λ c. search needs)
