@@ -1,6 +1,6 @@
 -- The loop that reads a list, over plain variables: what holds at its head, from its start through an item to its ends. Assumes nothing.
 use Prim.Native.Nat.{ℕ, zero, suc, _-_, _≤_, _<_}
-use mathlib.Core.Path.{_≡_, refl, sym, ap, _∙_, subst}
+use mathlib.Core.Path.{_≡_, refl, ap, _∙_, subst}
 use mathlib.Core.List.{List, [], _∷_}
 use native.Mathlib.Omega.{arith}
 use borrow.Author.Tests.{eqb-false, le-leb, lt-leb}
@@ -9,8 +9,8 @@ use lib.ListN.{length, replicate, length-replicate}
 use Rattle.wire.specs.Buffer.{Written}
 use Rattle.wire.proofs.Buffers.{overwrite-length}
 use Rattle.records.proofs.Choices.{by-cond}
-use Rattle.script.specs.Words.{Word, Hex, wordAt, textOf, same, hexOf, countOf}
-use Rattle.script.specs.Lists.{Assembled, Expected, read, after, counted, repeated, started, begun, itemAt, listFor, listOf, Reads}
+use Rattle.script.specs.Words.{Hex, wordAt, textOf, same, hexOf, countOf}
+use Rattle.script.specs.Lists.{Assembled, Expected, read, counted, repeated, started, itemAt, listFor, listOf, Reads}
 use Rattle.script.specs.declared.lists.Item.{Item}
 use Rattle.script.specs.declared.lists.Item.the-variants as i
 use Rattle.script.specs.declared.numbers.Hex.the-variants as h

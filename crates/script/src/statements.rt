@@ -1,6 +1,6 @@
 // The statements of a script.
 ghost use mathlib.Core.Path.{_≡_};
-ghost use Prim.Native.Nat.{_≤_, _<_};
+ghost use Prim.Native.Nat.{_≤_};
 ghost use lib.ListN.{length};
 ghost use Rattle.wire.specs.Buffer.{Written};
 ghost use Rattle.script.specs.Statements.{most, faultNamed, faultAt, opening, takes, commandAt, listAt, statementBy, statementAt, Says};

@@ -1,7 +1,5 @@
 // The words of a script.
 ghost use mathlib.Core.Path.{_≡_};
-ghost use Prim.Native.Nat.{_≤_};
-ghost use lib.ListN.{length};
 ghost use Rattle.script.specs.Words.{isIn, past, wordAt};
 
 // The bytes between words, those of a word, and those of a line.
