@@ -2,6 +2,7 @@
 pub mod Spans
 pub mod Sameness
 pub mod Reading
+pub mod Loops
 pub mod Cutting
 pub mod Listing
 pub mod Saying
