@@ -1,11 +1,11 @@
 -- Parts of a script that stand by themselves: a command by its name, the records of a list, and where a place of the text stands.
 use Prim.Native.Nat.{ℕ, zero, suc, _+_, _-_}
-use mathlib.Core.Bool.{cond}
+use mathlib.Core.Bool.{Bool, cond}
 use mathlib.Core.List.{List, [], _∷_}
 use lib.Dec.{eqb, leb, ltb}
 use lib.ListN.{length, take, drop}
 use Rattle.records.specs.Records.{recordOf}
-use Rattle.names.specs.Names.{names, padded}
+use Rattle.names.specs.Names.{names, padded, firstWhere}
 use Rattle.script.specs.Words.{same}
 use Rattle.script.specs.Lists.{Read, Assembled, read, after}
 use Rattle.script.specs.declared.Expected.the-variants as x
@@ -13,12 +13,11 @@ use Rattle.script.specs.declared.Stop.the-variants as s
 pub use Rattle.script.specs.declared.Position.{Position}
 
 -- A COMMAND BY ITS NAME: its row in the list, past the list's end if it has none
-unfoldable pub firstNamed : ℕ → List (List ℕ) → List ℕ → ℕ
-firstNamed n [] w = n
-firstNamed n (x ∷ xs) w = cond (same w x) n (firstNamed (suc n) xs w)
+abbrev pub hasName : List ℕ → ℕ → List ℕ → Bool
+hasName w n x = same w x
 
 unfoldable pub rowNamed : List ℕ → ℕ
-rowNamed w = cond (leb (length w) 24) (firstNamed 0 names (padded 24 w)) 74
+rowNamed w = cond (leb (length w) 24) (firstWhere (hasName (padded 24 w)) 0 names) 74
 
 -- there is no room for what the script has at a place
 abbrev pub noRoom : ℕ → ℕ → Assembled
