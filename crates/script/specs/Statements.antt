@@ -7,6 +7,8 @@ use mathlib.Core.List.{List, [], _∷_, _++_}
 use lib.Dec.{eqb, ltb}
 use lib.ListN.{length, take}
 use Rattle.names.specs.Names.{bytes as text, codeAt, isExtended}
+use Rattle.registers.specs.Registers.{faultCode}
+use Rattle.registers.specs.declared.Fault.the-variants.{Frame, Overrun, Parity}
 use Rattle.grammar.specs.declared.Context.{Context}
 use Rattle.grammar.specs.Following.{operandsIn}
 use Rattle.script.specs.Words.{Word, wordAt, textOf, same}
@@ -34,7 +36,7 @@ listSaid kind p xs (s.Wrong q e) = wrong q e
 
 -- a fault's code by its name, 0 if it has none
 abbrev pub faultNamed : List ℕ → ℕ
-faultNamed w = cond (same w (text "frame")) 0x81 (cond (same w (text "overrun")) 0x82 (cond (same w (text "parity")) 0x83 0))
+faultNamed w = cond (same w (text "frame")) (faultCode Frame) (cond (same w (text "overrun")) (faultCode Overrun) (cond (same w (text "parity")) (faultCode Parity) 0))
 
 -- .. and then the line's end
 abbrev pub faultSaid : ℕ → Word → Statement

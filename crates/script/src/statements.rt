@@ -14,6 +14,8 @@ use crate::words::Word;
 use crate::words::word_at;
 use grammar::Context;
 use grammar::following;
+use registers::Fault;
+use registers::fault_code;
 
 // The kinds of records.
 pub(crate) const BYTES: u16 = 1;
@@ -57,13 +59,13 @@ fn fault_named(word: &[u8]) -> u8
     ensures { λ r. ⌜ r ≡ faultNamed (now (word .entry)) ⌝ }
 {
     if check::same(word, b"frame") {
-        return 0x81;
+        return fault_code(Fault::Frame);
     }
     if check::same(word, b"overrun") {
-        return 0x82;
+        return fault_code(Fault::Overrun);
     }
     if check::same(word, b"parity") {
-        return 0x83;
+        return fault_code(Fault::Parity);
     }
     0
 }
