@@ -8,7 +8,7 @@ use crate::Refusal;
 // How many bytes a record's header has, and the most that its body may have.
 pub const HEADER: usize = 4;
 
-const MOST: usize = 4096;
+pub const MOST: usize = 4096;
 
 // What stands at a place of a file: a record of any kind, whose body is from a start to an end, the end, or a refusal.
 pub enum Record {

@@ -4,7 +4,7 @@ use mathlib.Core.Bool.{Bool, cond}
 use mathlib.Core.List.{List, [], _∷_}
 use lib.Dec.{eqb, leb, ltb}
 use lib.ListN.{length, take, drop}
-use Rattle.records.specs.Records.{recordOf}
+use Rattle.records.specs.Records.{mostBody, recordOf}
 use Rattle.names.specs.Names.{names, padded, firstWhere}
 use Rattle.script.specs.Words.{same}
 use Rattle.script.specs.Lists.{Read, Assembled, read, after}
@@ -23,15 +23,15 @@ rowNamed w = cond (leb (length w) 24) (firstWhere (hasName (padded 24 w)) 0 name
 abbrev pub noRoom : ℕ → ℕ → Assembled
 noRoom size p = record { size = size; stop = s.Wrong p x.Room }
 
--- RECORDS of at most 4,096 bytes each for a list of bytes, with room for so many, or up to the first that does not fit
+-- RECORDS for a list of bytes, full ones but for the last, with room for so many bytes, or up to the first that does not fit
 abbrev pub lastPiece : ℕ → List ℕ → ℕ → ℕ → Read
 lastPiece kind xs room p = cond (ltb room (4 + length xs)) (read [] (s.Wrong p x.Room)) (read (recordOf kind xs) s.Done)
 
 unfoldable pub cutFor : ℕ → ℕ → List ℕ → ℕ → ℕ → Read
 cutFor zero kind xs room p = read [] s.Done
 cutFor (suc n) kind xs room p =
-    cond (leb (length xs) 4096) (lastPiece kind xs room p)
-    (cond (ltb room 4100) (read [] (s.Wrong p x.Room)) (after (recordOf kind (take 4096 xs)) (cutFor n kind (drop 4096 xs) (room - 4100) p)))
+    cond (leb (length xs) mostBody) (lastPiece kind xs room p)
+    (cond (ltb room (4 + mostBody)) (read [] (s.Wrong p x.Room)) (after (recordOf kind (take mostBody xs)) (cutFor n kind (drop mostBody xs) (room - (4 + mostBody)) p)))
 
 -- a piece takes bytes of the list, so its length and one are pieces enough
 unfoldable pub cutOf : ℕ → List ℕ → ℕ → ℕ → Read

@@ -19,7 +19,7 @@ use Rattle.script.specs.declared.Stop.the-variants as s
 use Rattle.script.specs.declared.statements.Said.{Said}
 use Rattle.script.specs.declared.statements.Said.the-variants as d
 
--- the most bytes of a session, and so of a list
+-- the most bytes of a session, and so of a list; the session's own 32,768 (01, refusal 10) is in a crate above this one
 abbrev pub most : ℕ
 most = 32768
 

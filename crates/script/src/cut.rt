@@ -8,10 +8,8 @@ use crate::Assembled;
 use crate::Expected;
 use crate::Stop;
 use records::reading::HEADER;
+use records::reading::MOST;
 use records::writing::put_record;
-
-// The most bytes of a record's body.
-const MOST: usize = 4096;
 
 // There is no room for what the script has at a place.
 fn full(size: usize, place: usize) -> Assembled
