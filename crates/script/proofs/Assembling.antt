@@ -10,13 +10,15 @@ use lib.ListN.{length}
 use Rattle.grammar.specs.Grammar.{factory}
 use Rattle.grammar.specs.Scanner.{between}
 use Rattle.grammar.specs.declared.Scanner.{Scanner}
-use Rattle.script.specs.Words.{past}
-use Rattle.script.specs.Lists.{Assembled, Expected, read, Reads}
+use Rattle.text.specs.Words.{past}
+use Rattle.text.specs.Lists.{read, Reads}
+use Rattle.text.specs.declared.Assembled.{Assembled}
+use Rattle.text.specs.declared.Expected.{Expected}
 use Rattle.script.specs.Statements.{Statement, statementAt}
 use Rattle.script.specs.Script.{recordsOf, handed, scriptFor, scriptOf}
-use Rattle.script.specs.declared.words.Class.the-variants as k
-use Rattle.script.specs.declared.Stop.the-variants.{Done, Wrong}
-use Rattle.script.proofs.Loops.{Loop, last-turn, loop-ends, loop-on}
+use Rattle.text.specs.declared.words.Class.the-variants as k
+use Rattle.text.specs.declared.Stop.the-variants.{Done, Wrong}
+use Rattle.text.proofs.Loops.{Loop, last-turn, loop-ends, loop-on}
 
 -- at the loop's head, with the text from a place on left and the bytes so far leading to g
 abbrev pub Assembling : List ℕ → List ℕ → List ℕ → Scanner → ℕ → ℕ → Type 0

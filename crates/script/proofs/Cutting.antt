@@ -9,11 +9,11 @@ use lib.ListN.{length, take, drop, length-take, length-drop}
 use lib.Seq.{drop-drop, take-all}
 use Rattle.wire.specs.Buffer.{Written}
 use Rattle.records.specs.Records.{mostBody, recordOf}
-use Rattle.script.specs.Lists.{read, Reads}
-use Rattle.script.specs.Parts.{noRoom, cutFor, cutOf}
-use Rattle.script.specs.declared.Expected.the-variants.{Room}
-use Rattle.script.specs.declared.Stop.the-variants.{Done, Wrong}
-use Rattle.script.proofs.Loops.{Loop, last-turn, loop-ends, loop-on}
+use Rattle.text.specs.Lists.{read, Reads}
+use Rattle.script.specs.Cuts.{noRoom, cutFor, cutOf}
+use Rattle.text.specs.declared.Expected.the-variants.{Room}
+use Rattle.text.specs.declared.Stop.the-variants.{Done, Wrong}
+use Rattle.text.proofs.Loops.{Loop, last-turn, loop-ends, loop-on}
 
 -- at the loop's head, with the body from a place on left
 abbrev pub Cutting : ℕ → List ℕ → ℕ → List ℕ → ℕ → List ℕ → ℕ → ℕ → Type 0

@@ -11,11 +11,14 @@ use Rattle.registers.specs.Registers.{faultCode}
 use Rattle.registers.specs.declared.Fault.the-variants.{Frame, Overrun, Parity}
 use Rattle.grammar.specs.declared.Context.{Context}
 use Rattle.grammar.specs.Following.{operandsIn}
-use Rattle.script.specs.Words.{Word, wordAt, textOf, same}
-use Rattle.script.specs.Lists.{listOf, Expected, Stop}
-use Rattle.script.specs.Parts.{rowNamed}
-use Rattle.script.specs.declared.Expected.the-variants as x
-use Rattle.script.specs.declared.Stop.the-variants as s
+use Rattle.text.specs.Words.{wordAt, textOf, same}
+use Rattle.text.specs.declared.words.Word.{Word}
+use Rattle.text.specs.Lists.{listOf}
+use Rattle.text.specs.declared.Expected.{Expected}
+use Rattle.text.specs.declared.Stop.{Stop}
+use Rattle.text.specs.Named.{rowNamed}
+use Rattle.text.specs.declared.Expected.the-variants as x
+use Rattle.text.specs.declared.Stop.the-variants as s
 use Rattle.script.specs.declared.statements.Said.{Said}
 use Rattle.script.specs.declared.statements.Said.the-variants as d
 

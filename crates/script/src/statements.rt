@@ -5,17 +5,17 @@ ghost use lib.ListN.{length};
 ghost use Rattle.wire.specs.Buffer.{Written};
 ghost use Rattle.script.specs.Statements.{most, faultNamed, faultAt, opening, takes, commandAt, listAt, statementBy, statementAt, Says};
 ghost use Rattle.script.specs.Said.{listSaying, commandSaying};
-use crate::Assembled;
-use crate::Expected;
-use crate::Stop;
-use crate::lists::list;
-use crate::named::row_named;
-use crate::words::Word;
-use crate::words::word_at;
 use grammar::Context;
 use grammar::following;
 use registers::Fault;
 use registers::fault_code;
+use text::Assembled;
+use text::Expected;
+use text::Stop;
+use text::lists::list;
+use text::named::row_named;
+use text::words::Word;
+use text::words::word_at;
 
 // The kinds of records.
 pub(crate) const BYTES: u16 = 1;

@@ -5,8 +5,8 @@ use Prim.Native.Nat.{_-_}
 use native.Mathlib.Omega.{arith}
 use lib.ListN.{length}
 use Rattle.script.specs.Statements.{most}
-use Rattle.script.specs.declared.words.Class.the-variants.{Line}
-use Rattle.script.proofs.Spans.{past-within}
+use Rattle.text.specs.declared.words.Class.the-variants.{Line}
+use Rattle.text.proofs.Spans.{past-within}
 use Rattle.script.proofs.Assembling.{Assembling, assembling-first, assembling-end, assembling-wrong, assembling-on}
 use Rattle.script.proofs.assemble.Statement.{statement}
 use Rattle.script.proofs.assemble.Tie as tie

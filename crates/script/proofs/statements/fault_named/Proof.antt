@@ -2,7 +2,7 @@
 use borrow.Author.Needs.{needs}
 use mathlib.Core.Path.{sym, _∙_}
 use Rattle.names.specs.Names.{bytes as text}
-use Rattle.script.proofs.Sameness.{same-is}
+use Rattle.text.proofs.Sameness.{same-is}
 use Rattle.script.proofs.statements.fault_named.Statement.{statement}
 use Rattle.script.proofs.statements.fault_named.Tie as tie
 
