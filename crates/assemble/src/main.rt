@@ -3,7 +3,7 @@
 use input::Input;
 use libc::STDERR_FILENO;
 use libc::STDOUT_FILENO;
-use script::Stop;
+use text::Stop;
 
 fn to_go_on() -> bool {
     input::goes_on(

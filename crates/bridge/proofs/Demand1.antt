@@ -1,6 +1,6 @@
 -- Demand 1: exactly when a call is refused, and what it then leaves. Assumes nothing.
 use mathlib.Core.Path.{_≡_, refl, sym, ap, subst}
-use mathlib.Core.Bool.{true, false, false≢true}
+use mathlib.Core.Bool.{false≢true}
 use mathlib.Core.Logic.{_↔_}
 use Rattle.registers.specs.declared.Event.{Event}
 use Rattle.bridge.specs.Calls.{Bridge, Refusal, Ranges, Outcome, Taken, Refused, Lent, Given, refused, answerOf}

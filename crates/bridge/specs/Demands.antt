@@ -9,7 +9,6 @@ use lib.ListN.{length, take, drop}
 use Rattle.wire.specs.Action.{bytesOf}
 use Rattle.registers.specs.Registers.{withPage, withError}
 use Rattle.registers.specs.Ranges.{InRange}
-use Rattle.registers.specs.declared.State.{State}
 use Rattle.registers.specs.declared.Event.{Event}
 use Rattle.registers.specs.declared.Event.the-variants as e
 use Rattle.registers.specs.declared.Wait.the-variants as v

@@ -1,6 +1,6 @@
 // What is wrong with a script, in words, on a descriptor that the caller names. No contract here says what is written: a call to
 // the system has none that could say it. The program `scripts` compares it.
-use script::Expected;
+use text::Expected;
 
 fn say(fd: i32, text: &[u8]) {
     io::write_all(fd, text);
@@ -31,7 +31,7 @@ fn say_expected(fd: i32, e: Expected) {
 
 // Says in a line where a script is wrong and what was expected there.
 pub fn explain(fd: i32, text: &[u8], place: usize, expected: Expected) {
-    let p = script::place::position(text, place);
+    let p = text::place::position(text, place);
     say(fd, b"line ");
     io::print_decimal(fd, p.line as u64);
     say(fd, b", column ");

@@ -3,7 +3,7 @@ use Prim.Native.Nat.{ℕ}
 use mathlib.Core.Path.{_≡_, refl, sym, _∙_, ap}
 use mathlib.Core.Bool.{Bool, true, false, cond}
 use mathlib.Core.List.{List, [], _∷_}
-use Rattle.grammar.specs.Scanner.{Scanner, Scanned, Accepted, Rejected, between, scan}
+use Rattle.grammar.specs.Scanner.{Scanner, Scanned, Accepted, Rejected, scan}
 use Rattle.grammar.specs.Calls.{Machine, Call, Taken, answered, taken, final, bytes, Agree, Follows}
 use Rattle.grammar.specs.Following.{passing, followed, Leads}
 use Rattle.grammar.proofs.Demand3.{seen-between}

@@ -151,10 +151,14 @@ isExtended n = leb 31 n && leb n 41
 abbrev pub ExtendedRows : Type 0
 ExtendedRows = take 11 (drop 31 rows) ≡ extended
 
--- the first row from the n-th on that has the code and is extended or not; the table's end if there is none
-unfoldable pub firstFrom : ℕ → List ℕ → ℕ → Bool → ℕ
-firstFrom n [] c e = n
-firstFrom n (x ∷ xs) c e = cond (eqb x c && Bool·beq (isExtended n) e) n (firstFrom (suc n) xs c e)
+-- the first row from the n-th on that passes a test; the table's end if there is none
+unfoldable pub firstWhere : {A : Type 0} → (ℕ → A → Bool) → ℕ → List A → ℕ
+firstWhere test n [] = n
+firstWhere test n (x ∷ xs) = cond (test n x) n (firstWhere test (suc n) xs)
+
+-- whether the n-th row has a code and is extended or not
+abbrev pub hasCode : ℕ → Bool → ℕ → ℕ → Bool
+hasCode c e n x = eqb x c && Bool·beq (isExtended n) e
 
 unfoldable pub rowOf : ℕ → Bool → ℕ
-rowOf c e = firstFrom 0 codes c e
+rowOf c e = firstWhere (hasCode c e) 0 codes

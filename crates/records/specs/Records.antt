@@ -28,13 +28,17 @@ word s at = getD s at 0 + 256 * getD s (at + 1) 0
 abbrev pub part : List ℕ → ℕ → ℕ → List ℕ
 part s start end = take (end - start) (drop start s)
 
+-- the most bytes of a record's body
+abbrev pub mostBody : ℕ
+mostBody = 4096
+
 -- A RECORD OF ANY KIND at a place: the end, or "1 to 3 bytes left where a record header should be" (5), "record length over 4,096"
 -- (6), "record body passes the end" (7), else its kind and its body from a start to an end
 unfoldable pub recordAt : List ℕ → ℕ → Record
 recordAt s at =
     cond (leb (length s) at) r.End
     (cond (ltb (length s - at) 4) (r.Refused Header)
-    (cond (ltb 4096 (word s at)) (r.Refused Length)
+    (cond (ltb mostBody (word s at)) (r.Refused Length)
     (cond (ltb (length s - at - 4) (word s at)) (r.Refused Passes)
     (r.Body (word s (at + 2)) (at + 4) (at + 4 + word s at)))))
 

@@ -1,8 +1,4 @@
 -- Laws that the proofs of several functions cite.
-pub mod Spans
-pub mod Sameness
-pub mod Reading
 pub mod Cutting
-pub mod Listing
 pub mod Saying
 pub mod Assembling

@@ -1,5 +1,5 @@
 -- What is said of a list that was read to the front of a buffer. Assumes nothing.
-use Prim.Native.Nat.{ℕ, _+_, _-_, _≤_, _<_}
+use Prim.Native.Nat.{ℕ, _-_, _≤_, _<_}
 use mathlib.Core.Path.{_≡_, refl, sym, ap, _∙_, subst}
 use mathlib.Core.List.{List, [], _∷_, _++_}
 use native.Mathlib.Omega.{arith}
@@ -12,11 +12,13 @@ use Rattle.wire.proofs.Buffers.{overwrite-length, overwrite-append, overwrite-t
 use Rattle.names.specs.Names.{isExtended}
 use Rattle.grammar.specs.declared.Context.{Context}
 use Rattle.records.proofs.Choices.{by-cond, by-bool}
-use Rattle.script.specs.Words.{Word}
-use Rattle.script.specs.Lists.{Reads, Stop, Assembled, listOf}
+use Rattle.text.specs.declared.words.Word.{Word}
+use Rattle.text.specs.Lists.{Reads, listOf}
+use Rattle.text.specs.declared.Stop.{Stop}
+use Rattle.text.specs.declared.Assembled.{Assembled}
 use Rattle.script.specs.Statements.{most, bytes, listSaid, listAt, opening, takes, commandSaid, commandAt, Within, Says}
 use Rattle.script.specs.Said.{listEnded, listSaying, commandEnded, commandSaying}
-use Rattle.script.specs.declared.Stop.the-variants as s
+use Rattle.text.specs.declared.Stop.the-variants as s
 use Rattle.script.specs.declared.statements.Said.{Said}
 use Rattle.script.specs.declared.statements.Said.the-variants as d
 

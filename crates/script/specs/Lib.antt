@@ -1,6 +1,4 @@
-pub mod Words
-pub mod Lists
-pub mod Parts
+pub mod Cuts
 pub mod Statements
 pub mod Said
 pub mod Script

@@ -3,10 +3,11 @@ use Prim.Native.Nat.{ℕ, _-_}
 use mathlib.Core.Bool.{cond}
 use lib.Dec.{eqb}
 use Rattle.grammar.specs.declared.Context.{Context}
-use Rattle.script.specs.Lists.{Stop, Assembled}
+use Rattle.text.specs.declared.Stop.{Stop}
+use Rattle.text.specs.declared.Assembled.{Assembled}
 use Rattle.script.specs.Statements.{takes}
-use Rattle.script.specs.declared.Expected.the-variants as x
-use Rattle.script.specs.declared.Stop.the-variants as s
+use Rattle.text.specs.declared.Expected.the-variants as x
+use Rattle.text.specs.declared.Stop.the-variants as s
 use Rattle.script.specs.declared.statements.Said.{Said}
 use Rattle.script.specs.declared.statements.Said.the-variants as d
 

@@ -8,12 +8,13 @@ use Rattle.grammar.specs.Grammar.{factory}
 use Rattle.grammar.specs.Scanner.{between}
 use Rattle.grammar.specs.declared.Scanner.{Scanner}
 use Rattle.grammar.specs.Following.{followed}
-use Rattle.script.specs.Words.{past}
-use Rattle.script.specs.Lists.{Read, read, after, Stop}
-use Rattle.script.specs.Parts.{cutOf}
+use Rattle.text.specs.Words.{past}
+use Rattle.text.specs.Lists.{Read, read, after}
+use Rattle.text.specs.declared.Stop.{Stop}
+use Rattle.script.specs.Cuts.{cutOf}
 use Rattle.script.specs.Statements.{Statement, nothing, bytes, wrong, statementAt}
-use Rattle.script.specs.declared.Stop.the-variants as s
-use Rattle.script.specs.declared.words.Class.the-variants as k
+use Rattle.text.specs.declared.Stop.the-variants as s
+use Rattle.text.specs.declared.words.Class.the-variants as k
 
 -- the records of a statement at a place, with room for so many bytes
 abbrev pub recordsOf : ℕ → ℕ → Statement → Read

@@ -7,17 +7,22 @@ use mathlib.Core.List.{List, [], _∷_, _++_}
 use lib.Dec.{eqb, ltb}
 use lib.ListN.{length, take}
 use Rattle.names.specs.Names.{bytes as text, codeAt, isExtended}
+use Rattle.registers.specs.Registers.{faultCode}
+use Rattle.registers.specs.declared.Fault.the-variants.{Frame, Overrun, Parity}
 use Rattle.grammar.specs.declared.Context.{Context}
 use Rattle.grammar.specs.Following.{operandsIn}
-use Rattle.script.specs.Words.{Word, wordAt, textOf, same}
-use Rattle.script.specs.Lists.{listOf, Expected, Stop}
-use Rattle.script.specs.Parts.{rowNamed}
-use Rattle.script.specs.declared.Expected.the-variants as x
-use Rattle.script.specs.declared.Stop.the-variants as s
+use Rattle.text.specs.Words.{wordAt, textOf, same}
+use Rattle.text.specs.declared.words.Word.{Word}
+use Rattle.text.specs.Lists.{listOf}
+use Rattle.text.specs.declared.Expected.{Expected}
+use Rattle.text.specs.declared.Stop.{Stop}
+use Rattle.text.specs.Named.{rowNamed}
+use Rattle.text.specs.declared.Expected.the-variants as x
+use Rattle.text.specs.declared.Stop.the-variants as s
 use Rattle.script.specs.declared.statements.Said.{Said}
 use Rattle.script.specs.declared.statements.Said.the-variants as d
 
--- the most bytes of a session, and so of a list
+-- the most bytes of a session, and so of a list; the session's own 32,768 (01, refusal 10) is in a crate above this one
 abbrev pub most : ℕ
 most = 32768
 
@@ -34,7 +39,7 @@ listSaid kind p xs (s.Wrong q e) = wrong q e
 
 -- a fault's code by its name, 0 if it has none
 abbrev pub faultNamed : List ℕ → ℕ
-faultNamed w = cond (same w (text "frame")) 0x81 (cond (same w (text "overrun")) 0x82 (cond (same w (text "parity")) 0x83 0))
+faultNamed w = cond (same w (text "frame")) (faultCode Frame) (cond (same w (text "overrun")) (faultCode Overrun) (cond (same w (text "parity")) (faultCode Parity) 0))
 
 -- .. and then the line's end
 abbrev pub faultSaid : ℕ → Word → Statement

@@ -2,16 +2,14 @@
 ghost use mathlib.Core.Path.{_≡_};
 ghost use Prim.Native.Nat.{_-_, _≤_};
 ghost use lib.ListN.{length};
-ghost use Rattle.script.specs.Lists.{Reads};
-ghost use Rattle.script.specs.Parts.{noRoom, cutOf};
-use crate::Assembled;
-use crate::Expected;
-use crate::Stop;
+ghost use Rattle.text.specs.Lists.{Reads};
+ghost use Rattle.script.specs.Cuts.{noRoom, cutOf};
 use records::reading::HEADER;
+use records::reading::MOST;
 use records::writing::put_record;
-
-// The most bytes of a record's body.
-const MOST: usize = 4096;
+use text::Assembled;
+use text::Expected;
+use text::Stop;
 
 // There is no room for what the script has at a place.
 fn full(size: usize, place: usize) -> Assembled

@@ -2,51 +2,20 @@
 ghost use mathlib.Core.Path.{_≡_};
 ghost use Prim.Native.Nat.{_-_, _≤_};
 ghost use lib.ListN.{length};
-ghost use Rattle.script.specs.Lists.{Reads};
+ghost use Rattle.text.specs.Lists.{Reads};
 ghost use Rattle.script.specs.Statements.{meant, Within};
 ghost use Rattle.script.specs.Script.{recordsOf, handed, scriptOf};
 
 mod cut;
-mod lists;
-mod named;
-mod numbers;
-pub mod place;
 mod statements;
-mod words;
 
 use grammar::Scanner;
 use grammar::following;
 use statements::Said;
-use words::Class;
-
-// What a script was expected to have where it is wrong.
-pub enum Expected {
-    Statement,
-    Byte,
-    Count,
-    Fault,
-    LineEnd,
-    Operands(u8),
-    Room,
-}
-
-// Why reading stopped: all is read, or something is wrong at a place.
-pub enum Stop {
-    Done,
-    Wrong { place: usize, expected: Expected },
-}
-
-// How many bytes of a buffer hold what was read, and why reading stopped.
-pub struct Assembled {
-    pub size: usize,
-    pub stop: Stop,
-}
-
-// A line and a column, both from 1.
-pub struct Position {
-    pub line: usize,
-    pub column: usize,
-}
+use text::Assembled;
+use text::Stop;
+use text::words;
+use text::words::Class;
 
 // The most bytes of a session.
 const MOST_SESSION: usize = 32768;

@@ -1,19 +1,21 @@
 // The statements of a script.
 ghost use mathlib.Core.Path.{_≡_};
-ghost use Prim.Native.Nat.{_≤_, _<_};
+ghost use Prim.Native.Nat.{_≤_};
 ghost use lib.ListN.{length};
 ghost use Rattle.wire.specs.Buffer.{Written};
 ghost use Rattle.script.specs.Statements.{most, faultNamed, faultAt, opening, takes, commandAt, listAt, statementBy, statementAt, Says};
 ghost use Rattle.script.specs.Said.{listSaying, commandSaying};
-use crate::Assembled;
-use crate::Expected;
-use crate::Stop;
-use crate::lists::list;
-use crate::named::row_named;
-use crate::words::Word;
-use crate::words::word_at;
 use grammar::Context;
 use grammar::following;
+use registers::Fault;
+use registers::fault_code;
+use text::Assembled;
+use text::Expected;
+use text::Stop;
+use text::lists::list;
+use text::named::row_named;
+use text::words::Word;
+use text::words::word_at;
 
 // The kinds of records.
 pub(crate) const BYTES: u16 = 1;
@@ -57,13 +59,13 @@ fn fault_named(word: &[u8]) -> u8
     ensures { λ r. ⌜ r ≡ faultNamed (now (word .entry)) ⌝ }
 {
     if check::same(word, b"frame") {
-        return 0x81;
+        return fault_code(Fault::Frame);
     }
     if check::same(word, b"overrun") {
-        return 0x82;
+        return fault_code(Fault::Overrun);
     }
     if check::same(word, b"parity") {
-        return 0x83;
+        return fault_code(Fault::Parity);
     }
     0
 }

@@ -5,7 +5,7 @@ use input::Input;
 use libc::STDERR_FILENO;
 use libc::STDOUT_FILENO;
 use records::reading::joined;
-use script::Stop;
+use text::Stop;
 
 fn to_go_on() -> bool {
     input::goes_on(

@@ -1,6 +1,5 @@
 // Switch-on: a bridge made from stored settings.
 ghost use mathlib.Core.Path.{_≡_};
-ghost use Prim.Native.Nat.{_/_};
 ghost use mathlib.Core.List.{[]};
 ghost use Rattle.packet.specs.Register.{zeros};
 ghost use Rattle.switch_on.specs.Start.{starting};

@@ -1,6 +1,6 @@
 -- The row's entry in the table of names.
 use borrow.Author.Needs.{needs}
-use mathlib.Core.Path.{refl, sym}
+use mathlib.Core.Path.{sym}
 use lib.ListN.{List·getD-eq-default}
 use Rattle.names.specs.Names.{nameAt, names, blanks}
 use Rattle.names.proofs.Rows.{getD-within}

@@ -4,14 +4,15 @@ use mathlib.Core.Path.{_≡_, sym}
 use Prim.Native.Nat.{_-_}
 use native.Mathlib.Omega.{arith}
 use lib.ListN.{length}
-use Rattle.script.specs.declared.words.Class.the-variants.{Line}
-use Rattle.script.proofs.Spans.{past-within}
+use Rattle.script.specs.Statements.{most}
+use Rattle.text.specs.declared.words.Class.the-variants.{Line}
+use Rattle.text.proofs.Spans.{past-within}
 use Rattle.script.proofs.Assembling.{Assembling, assembling-first, assembling-end, assembling-wrong, assembling-on}
 use Rattle.script.proofs.assemble.Statement.{statement}
 use Rattle.script.proofs.assemble.Tie as tie
 
 abbrev Inv-loop : tie.InvT-loop
-Inv-loop text out₀ body₀ g₀ at₀ size₀ out body g at size = Assembling text out₀ out g at size × (32768 ≡ length body)
+Inv-loop text out₀ body₀ g₀ at₀ size₀ out body g at size = Assembling text out₀ out g at size × (most ≡ length body)
 
 abbrev μ-loop : tie.MeasureT-loop
 μ-loop text out₀ body₀ g₀ at₀ size₀ out body g at size = length text - at

@@ -2,8 +2,8 @@
 use borrow.Author.Needs.{needs}
 use native.Mathlib.Omega.{arith}
 use lib.ListN.{length-take}
-use Rattle.script.specs.declared.Stop.the-variants.{Done, Wrong}
-use Rattle.script.proofs.Reading.{reads-none}
+use Rattle.text.specs.declared.Stop.the-variants.{Done, Wrong}
+use Rattle.text.proofs.Reading.{reads-none}
 use Rattle.script.proofs.Saying.{bytes-within}
 use Rattle.script.proofs.put_said.Statement.{statement}
 use Rattle.script.proofs.put_said.Tie as tie

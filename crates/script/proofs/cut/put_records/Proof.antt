@@ -20,11 +20,11 @@ put-records-spec =
     Inv-loop
     μ-loop
     (λ c. let s = c .before .before in cutting-first (s .args .kind) (s .args .body .now) (s .args .place) (s .args .out .now) (s .args .at) (search needs))
-    (λ c. c .loop .inv .inside)
-    (λ c. let l = c .before .loop in omega (arith, l .inv .within, l .inv .same))
+    (λ c. c .loop .inv .1)
+    (λ c. let l = c .before .loop in omega (arith, l .inv .0 .within, l .inv .0 .same))
     (λ c. search needs)
     (λ c κs. search needs)
-    (λ c. c .before .before .before .loop .inv .same)
+    (λ c. c .before .before .before .loop .inv .0 .same)
     (λ c.
     let l = c .before .before .before .loop in
     let s = c .before .before .before .before .before .before in
@@ -33,27 +33,27 @@ put-records-spec =
     (λ c. search needs)
     (λ c. search needs)
     (λ c. search needs)
-    (λ c κs. let l = c .before .before .before .before .loop in simp (length-take, length-drop) (omega (arith, l .inv .within, l .inv .same)))
+    (λ c κs. let l = c .before .before .before .before .loop in simp (length-take, length-drop) (omega (arith, l .inv .0 .within, l .inv .0 .same)))
     (λ c. search needs)
     (λ c. search needs)
     (λ c.
     let l = c .before .before .before .before .before .before .before .loop in
     let s = c .before .before .before .before .before .before .before .before .before .before in
     cutting-on (s .args .kind) (s .args .body .now) (s .args .place) (s .args .out .now) (s .args .at) (l .out) (l .from) (l .size) (l .inv) (c .before .before .before .before .before .before .loop-test .taken) (c .before .before .before .before .before .if1 .left) _ _ (c .before .before .put-record .ensures))
-    (λ c. c .before .loop .inv .inside)
-    (λ c. let l = c .before .loop in omega (arith, l .inv .within, l .inv .same))
+    (λ c. c .before .loop .inv .1)
+    (λ c. let l = c .before .loop in omega (arith, l .inv .0 .within, l .inv .0 .same))
     (λ c. search needs)
     (λ c κs. search needs)
-    (λ c. c .before .before .before .loop .inv .same)
+    (λ c. c .before .before .before .loop .inv .0 .same)
     (λ c.
     let l = c .before .before .before .loop in
     let s = c .before .before .before .before .before .before in
     rw (c .full2 .ensures) (cutting-last-full (s .args .kind) (s .args .body .now) (s .args .place) (s .args .out .now) (s .args .at) (l .out) (l .from) (l .size) (l .inv) (c .before .before .loop-test .left) (c .before .if2 .taken)))
-    (λ c. c .before .before .before .loop .inv .inside)
+    (λ c. c .before .before .before .loop .inv .1)
     (λ c. search needs)
     (λ c. search needs)
-    (λ c κs. let l = c .before .before .before .before .loop in simp (length-take, length-drop) (omega (arith, l .inv .within, l .inv .same)))
-    (λ c. let l = c .before .before .before .before .before .before .before .loop in omega (arith, l .inv .same))
+    (λ c κs. let l = c .before .before .before .before .loop in simp (length-take, length-drop) (omega (arith, l .inv .0 .within, l .inv .0 .same)))
+    (λ c. let l = c .before .before .before .before .before .before .before .loop in omega (arith, l .inv .0 .same))
     (λ c.
     let l = c .before .before .before .before .before .before .before .loop in
     let s = c .before .before .before .before .before .before .before .before .before .before in

@@ -2,7 +2,7 @@
 use borrow.Author.Needs.{needs}
 use borrow.Author.Tests.{eq-eqb, ne-eqb}
 use mathlib.Core.Path.{refl, sym, _∙_}
-use Rattle.script.specs.Words.{wordAt, textOf}
+use Rattle.text.specs.Words.{wordAt, textOf}
 use Rattle.script.specs.Statements.{faultNamed}
 use Rattle.script.proofs.Saying.{says-fault}
 use Rattle.script.proofs.statements.fault.Statement.{statement}

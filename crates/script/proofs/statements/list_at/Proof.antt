@@ -1,7 +1,5 @@
 -- The list is read, and said.
 use borrow.Author.Needs.{needs}
-use mathlib.Core.Path.{subst⁻¹}
-use Rattle.script.specs.Statements.{listAt, Says}
 use Rattle.script.proofs.Saying.{says-list}
 use Rattle.script.proofs.statements.list_at.Statement.{statement}
 use Rattle.script.proofs.statements.list_at.Tie as tie

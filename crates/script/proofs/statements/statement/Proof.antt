@@ -1,7 +1,7 @@
 -- By the next word.
 use borrow.Author.Needs.{needs}
 use Rattle.script.specs.Statements.{statementAt}
-use Rattle.script.proofs.Spans.{word-forward, word-within}
+use Rattle.text.proofs.Spans.{word-forward, word-within}
 use Rattle.script.proofs.statements.statement.Statement.{statement}
 use Rattle.script.proofs.statements.statement.Tie as tie
 

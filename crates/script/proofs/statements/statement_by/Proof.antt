@@ -3,9 +3,9 @@ use borrow.Author.Needs.{needs}
 use borrow.Author.Tests.{eq-eqb, ne-eqb}
 use mathlib.Core.Path.{refl, sym, _∙_}
 use Rattle.names.specs.Names.{bytes as text}
-use Rattle.script.specs.Words.{textOf}
-use Rattle.script.proofs.Spans.{word-forward, word-within}
-use Rattle.script.proofs.Sameness.{same-is}
+use Rattle.text.specs.Words.{textOf}
+use Rattle.text.proofs.Spans.{word-forward, word-within}
+use Rattle.text.proofs.Sameness.{same-is}
 use Rattle.script.proofs.statements.statement_by.Statement.{statement}
 use Rattle.script.proofs.statements.statement_by.Tie as tie
 

@@ -1,0 +1,15 @@
+-- A command by its name in a text.
+use Prim.Native.Nat.{ℕ}
+use mathlib.Core.Bool.{Bool, cond}
+use mathlib.Core.List.{List}
+use lib.Dec.{leb}
+use lib.ListN.{length}
+use Rattle.names.specs.Names.{names, padded, firstWhere}
+use Rattle.text.specs.Words.{same}
+
+-- whether a row has the name, and the row of a name, past the list's end if it has none
+abbrev pub hasName : List ℕ → ℕ → List ℕ → Bool
+hasName w n x = same w x
+
+unfoldable pub rowNamed : List ℕ → ℕ
+rowNamed w = cond (leb (length w) 24) (firstWhere (hasName (padded 24 w)) 0 names) 74
