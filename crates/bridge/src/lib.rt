@@ -124,8 +124,8 @@ impl Bridge {
         self.step_in_range(event, samples, sampled, actions, acted, replies, replied)
     }
 
-    // The same where the caller shows that the state breaks no range, so that a run of events tests it once.
-    pub fn step_in_range(
+    // The same where the state breaks no range.
+    fn step_in_range(
         self,
         event: Event,
         samples: &[u8],

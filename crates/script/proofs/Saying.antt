@@ -16,8 +16,8 @@ use Rattle.text.specs.declared.words.Word.{Word}
 use Rattle.text.specs.Lists.{Reads, listOf}
 use Rattle.text.specs.declared.Stop.{Stop}
 use Rattle.text.specs.declared.Assembled.{Assembled}
-use Rattle.script.specs.Statements.{most, bytes, listSaid, listAt, opening, takes, commandSaid, commandAt, Within, Says}
-use Rattle.script.specs.Said.{listEnded, listSaying, commandEnded, commandSaying}
+use Rattle.script.specs.Statements.{most, bytes, listSaid, listAt, opening, takes, commandSaid, commandAt}
+use Rattle.script.specs.Said.{Within, Says, listEnded, listSaying, commandEnded, commandSaying}
 use Rattle.text.specs.declared.Stop.the-variants as s
 use Rattle.script.specs.declared.statements.Said.{Said}
 use Rattle.script.specs.declared.statements.Said.the-variants as d

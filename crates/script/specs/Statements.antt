@@ -1,11 +1,10 @@
 -- The statements of a script, one a line: `send` and `samples` with a list of bytes, `fault` with its name, or a command's name
 -- with its operands.
-use Prim.Native.Nat.{ℕ, _-_, _≤_}
-use mathlib.Core.Path.{_≡_}
+use Prim.Native.Nat.{ℕ, _-_}
 use mathlib.Core.Bool.{cond}
 use mathlib.Core.List.{List, [], _∷_, _++_}
 use lib.Dec.{eqb, ltb}
-use lib.ListN.{length, take}
+use lib.ListN.{length}
 use Rattle.names.specs.Names.{bytes as text, codeAt, isExtended}
 use Rattle.registers.specs.Registers.{faultCode}
 use Rattle.registers.specs.declared.Fault.the-variants.{Frame, Overrun, Parity}
@@ -19,8 +18,6 @@ use Rattle.text.specs.declared.Stop.{Stop}
 use Rattle.text.specs.Named.{rowNamed}
 use Rattle.text.specs.declared.Expected.the-variants as x
 use Rattle.text.specs.declared.Stop.the-variants as s
-use Rattle.script.specs.declared.statements.Said.{Said}
-use Rattle.script.specs.declared.statements.Said.the-variants as d
 
 -- the most bytes of a session, and so of a list; the session's own 32,768 (01, refusal 10) is in a crate above this one
 abbrev pub most : ℕ
@@ -79,18 +76,3 @@ statementBy t c w =
 
 unfoldable pub statementAt : List ℕ → Context → ℕ → Statement
 statementAt t c p = statementBy t c (wordAt t p)
-
--- what is said, with its bytes at the front of a buffer that holds l
-abbrev pub meant : List ℕ → Said → Statement
-meant l d.Nothing = nothing
-meant l (d.Bytes kind n) = bytes kind (take n l)
-meant l (d.Wrong p e) = wrong p e
-
-abbrev pub Within : List ℕ → Said → Type 0
-Within l d.Nothing = Unit {0}
-Within l (d.Bytes kind n) = n ≤ length l
-Within l (d.Wrong p e) = Unit {0}
-
-pub record Says (st : Statement) (l : List ℕ) (r : Said) : Type 0 where
-  pub is : st ≡ meant l r
-  pub within : Within l r

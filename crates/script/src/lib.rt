@@ -3,7 +3,7 @@ ghost use mathlib.Core.Path.{_≡_};
 ghost use Prim.Native.Nat.{_-_, _≤_};
 ghost use lib.ListN.{length};
 ghost use Rattle.text.specs.Lists.{Reads};
-ghost use Rattle.script.specs.Statements.{meant, Within};
+ghost use Rattle.script.specs.Said.{meant, Within};
 ghost use Rattle.script.specs.Script.{recordsOf, handed, scriptOf};
 
 mod cut;
