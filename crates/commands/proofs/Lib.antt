@@ -7,4 +7,3 @@ pub mod Keeps
 pub mod Clauses
 pub mod Rejects
 pub mod Bounds
-pub mod Edges

@@ -1,3 +1,2 @@
 pub mod Register
 pub mod Packet
-pub mod Edges

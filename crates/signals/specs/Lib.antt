@@ -1,3 +1,2 @@
 pub mod Waveforms
-pub mod Counts
 pub mod Sensed
