@@ -1,2 +1,3 @@
 pub mod Waveforms
 pub mod Sensed
+pub mod Samples
