@@ -7,3 +7,5 @@ pub mod Keeps
 pub mod Clauses
 pub mod Rejects
 pub mod Bounds
+pub mod OneBit
+pub mod Samples

@@ -1,9 +1,11 @@
--- A byte that is none of a table's codes is not found there. Assumes nothing.
+-- What a table's lookup finds: a command that has what all of them have, or none where the byte is none of its codes. Assumes nothing.
 use Prim.Native.Nat.{ℕ}
 use mathlib.Core.Path.{_≡_, refl}
 use mathlib.Core.List.{List, [], _∷_}
 use borrow.Author.Tests.{ne-eqb}
+use lib.Dec.{eqb}
 use Rattle.commands.specs.Common.{Entry, lookup}
+use Rattle.commands.proofs.Choices.{either}
 
 -- what the last arm of a match over a table's codes knows, after N
 abbrev pub Missed : {A : Type 0} → Type 0 → List (Entry A) → ℕ → Type 0
@@ -19,3 +21,12 @@ missed unknown N [] b m = refl
 missed unknown N (e ∷ es) b m =
     let ne = missed-front (N × (b ≡ e .code → ⊥)) es b m in
     rw (ne-eqb b (e .code) (ne .1)) (missed unknown (N × (b ≡ e .code → ⊥)) es b m)
+
+-- each command of a table has P
+abbrev pub Every : {A : Type 0} → (A → Type 0) → List (Entry A) → Type 0
+Every P [] = Unit {0}
+Every P (e ∷ es) = P (e .command) × Every P es
+
+pub found : {A : Type 0} (P : A → Type 0) (unknown : A) (b : ℕ) (es : List (Entry A)) → P unknown → Every P es → P (lookup unknown b es)
+found P unknown b [] u h = u
+found P unknown b (e ∷ es) u h = either P (eqb b (e .code)) (e .command) (lookup unknown b es) (h .0) (found P unknown b es u (h .1))

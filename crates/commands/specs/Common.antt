@@ -1,10 +1,12 @@
 -- The common commands (01, "Registers and common commands"), a clause a command.
-use Prim.Native.Nat.{ℕ, _+_, _*_, _/_, _%_}
+use Prim.Native.Nat.{ℕ, _+_, _*_, _/_, _%_, _<_}
+use mathlib.Core.Path.{_≡_}
 use mathlib.Core.Bool.{Bool, true, false, cond}
 use mathlib.Core.List.{List, [], _∷_}
 use lib.Dec.{eqb}
 use Rattle.wire.specs.Action.{waitCycles, cs, ss, portB, portC, portD}
 use Rattle.registers.specs.Registers.{spiSelected, registerOf, withRegister, withFlags, withError, withPage, withShared}
+use Rattle.registers.specs.Protected.{bit}
 use Rattle.registers.specs.declared.Page.{Page}
 use Rattle.registers.specs.declared.Shared.{Shared}
 use Rattle.registers.specs.declared.State.{State}
@@ -56,6 +58,16 @@ bitOf on = cond on 1 0
 
 abbrev pub withBit : Bit → Bool → ℕ → ℕ
 withBit b on x = x % weightOf b + bitOf on * weightOf b + x / (weightOf b * 2) * (weightOf b * 2)
+
+-- its number
+abbrev pub placeOf : Bit → ℕ
+placeOf Three = 3
+placeOf Four = 4
+placeOf Five = 5
+
+-- THEOREM (proofs/OneBit.antt, `one-bit`): the bit of that number is set or cleared, and the others are the register's
+abbrev pub OneBit : Bit → Bool → ℕ → Type 0
+OneBit b on x = (i : ℕ) → i < 8 → bit i (withBit b on x) ≡ cond (eqb i (placeOf b)) (bitOf on) (bit i x)
 
 -- THE REGISTERS
 
