@@ -81,7 +81,7 @@ pub record Demand2 (b : Bridge) (e : Event) (l : Lent) : Type 0 where
   pub actions-counted : outcome b e l ≡ Taken → 4 * (answerOf b e l) .answer .actions ≡ length (bytesOf ((effect b e l) .actions))
   pub replies-counted : outcome b e l ≡ Taken → (answerOf b e l) .answer .replies ≡ length (sentBy (effect b e l))
   pub samples-counted : outcome b e l ≡ Taken → (answerOf b e l) .answer .samples ≡ (effect b e l) .used
-  -- and the samples used are those taken, by the actions with verb 3 or 7; a state's arrays always have their sizes
+  -- and the samples used are those taken, by the actions with verb 3 or 7 (`Sized`: an array of the state has its size)
   pub samples-taken : Sized (b .state) → outcome b e l ≡ Taken → (answerOf b e l) .answer .samples ≡ samplings ((effect b e l) .actions)
   pub rejected : outcome b e l ≡ Taken → isRejected ((effect b e l) .said) ≡ true → OnlyErrorChanged b e l
 

@@ -1,49 +1,32 @@
--- A bit that a command sets or clears, and no other, is another: place by place. Assumes nothing.
-use Prim.Native.Nat.{ℕ, zero, suc, _%_}
-use mathlib.Core.Path.{_≡_, ap}
+-- A bit that a command sets or clears is that bit, and those below and above it stay. Assumes nothing.
+use Prim.Native.Nat.{ℕ, suc, _/_, _%_, _^_, _<_}
+use mathlib.Core.Path.{_≡_}
 use mathlib.Core.Bool.{Bool}
+use native.Mathlib.Decide.{decLt}
 use native.Mathlib.Omega.{arith}
-use Rattle.commands.specs.Common.{Bit, Three, Four, Five, OneBit}
+use Rattle.registers.specs.Protected.{bit}
+use Rattle.registers.proofs.Bits.{same-low, same-high}
+use Rattle.commands.specs.Common.{Bit, Three, Four, Five, bitOf, withBit, placeOf, OneBit}
 use Rattle.commands.proofs.Choices.{at-most}
 
--- the bits from a place on are the same, so the lowest of them is
-lowest : {a b : ℕ} → a ≡ b → a % 2 ≡ b % 2
-lowest e = ap (λ (q : ℕ). q % 2) e
+own : (b : Bit) (on : Bool) (x : ℕ) → bit (placeOf b) (withBit b on x) ≡ bitOf on
+own Three on x = omega (arith, at-most on 1)
+own Four on x = omega (arith, at-most on 1)
+own Five on x = omega (arith, at-most on 1)
 
-third : (on : Bool) (x : ℕ) → OneBit Three on x
-third on x zero h = omega (arith, at-most on 1)
-third on x (suc zero) h = omega (arith, at-most on 1)
-third on x (suc (suc zero)) h = omega (arith, at-most on 1)
-third on x (suc (suc (suc zero))) h = omega (arith, at-most on 1)
-third on x (suc (suc (suc (suc zero)))) h = lowest (omega (arith, at-most on 1))
-third on x (suc (suc (suc (suc (suc zero))))) h = lowest (omega (arith, at-most on 1))
-third on x (suc (suc (suc (suc (suc (suc zero)))))) h = lowest (omega (arith, at-most on 1))
-third on x (suc (suc (suc (suc (suc (suc (suc zero))))))) h = lowest (omega (arith, at-most on 1))
-third on x (suc (suc (suc (suc (suc (suc (suc (suc i)))))))) h = absurd (omega arith)
+below : (b : Bit) (on : Bool) (x : ℕ) → withBit b on x % 2 ^ placeOf b ≡ x % 2 ^ placeOf b
+below Three on x = omega arith
+below Four on x = omega arith
+below Five on x = omega arith
 
-fourth : (on : Bool) (x : ℕ) → OneBit Four on x
-fourth on x zero h = omega (arith, at-most on 1)
-fourth on x (suc zero) h = omega (arith, at-most on 1)
-fourth on x (suc (suc zero)) h = omega (arith, at-most on 1)
-fourth on x (suc (suc (suc zero))) h = omega (arith, at-most on 1)
-fourth on x (suc (suc (suc (suc zero)))) h = omega (arith, at-most on 1)
-fourth on x (suc (suc (suc (suc (suc zero))))) h = lowest (omega (arith, at-most on 1))
-fourth on x (suc (suc (suc (suc (suc (suc zero)))))) h = lowest (omega (arith, at-most on 1))
-fourth on x (suc (suc (suc (suc (suc (suc (suc zero))))))) h = lowest (omega (arith, at-most on 1))
-fourth on x (suc (suc (suc (suc (suc (suc (suc (suc i)))))))) h = absurd (omega arith)
-
-fifth : (on : Bool) (x : ℕ) → OneBit Five on x
-fifth on x zero h = omega (arith, at-most on 1)
-fifth on x (suc zero) h = omega (arith, at-most on 1)
-fifth on x (suc (suc zero)) h = omega (arith, at-most on 1)
-fifth on x (suc (suc (suc zero))) h = omega (arith, at-most on 1)
-fifth on x (suc (suc (suc (suc zero)))) h = omega (arith, at-most on 1)
-fifth on x (suc (suc (suc (suc (suc zero))))) h = omega (arith, at-most on 1)
-fifth on x (suc (suc (suc (suc (suc (suc zero)))))) h = lowest (omega (arith, at-most on 1))
-fifth on x (suc (suc (suc (suc (suc (suc (suc zero))))))) h = lowest (omega (arith, at-most on 1))
-fifth on x (suc (suc (suc (suc (suc (suc (suc (suc i)))))))) h = absurd (omega arith)
+above : (b : Bit) (on : Bool) (x : ℕ) → withBit b on x / 2 ^ suc (placeOf b) ≡ x / 2 ^ suc (placeOf b)
+above Three on x = omega (arith, at-most on 1)
+above Four on x = omega (arith, at-most on 1)
+above Five on x = omega (arith, at-most on 1)
 
 pub one-bit : (b : Bit) (on : Bool) (x : ℕ) → OneBit b on x
-one-bit Three on x i h = third on x i h
-one-bit Four on x i h = fourth on x i h
-one-bit Five on x i h = fifth on x i h
+one-bit b on x = record { own = own b on x; others = λ i n. go i n (decLt i (placeOf b)) }
+  where
+    go : (i : ℕ) → ¬ (i ≡ placeOf b) → Dec (i < placeOf b) → bit i (withBit b on x) ≡ bit i x
+    go i n (yes h) = same-low (withBit b on x) x (placeOf b) i (below b on x) h
+    go i n (no h) = same-high (withBit b on x) x (suc (placeOf b)) i (above b on x) (omega arith)

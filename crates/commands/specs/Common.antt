@@ -1,5 +1,5 @@
 -- The common commands (01, "Registers and common commands"), a clause a command.
-use Prim.Native.Nat.{ℕ, _+_, _*_, _/_, _%_, _<_}
+use Prim.Native.Nat.{ℕ, _+_, _*_, _/_, _%_}
 use mathlib.Core.Path.{_≡_}
 use mathlib.Core.Bool.{Bool, true, false, cond}
 use mathlib.Core.List.{List, [], _∷_}
@@ -65,9 +65,10 @@ placeOf Three = 3
 placeOf Four = 4
 placeOf Five = 5
 
--- THEOREM (proofs/OneBit.antt, `one-bit`): the bit of that number is set or cleared, and the others are the register's
-abbrev pub OneBit : Bit → Bool → ℕ → Type 0
-OneBit b on x = (i : ℕ) → i < 8 → bit i (withBit b on x) ≡ cond (eqb i (placeOf b)) (bitOf on) (bit i x)
+-- THEOREM (proofs/OneBit.antt, `one-bit`): the bit of that number is set or cleared, and every other is the register's
+pub record OneBit (b : Bit) (on : Bool) (x : ℕ) : Type 0 where
+  pub own : bit (placeOf b) (withBit b on x) ≡ bitOf on
+  pub others : (i : ℕ) → ¬ (i ≡ placeOf b) → bit i (withBit b on x) ≡ bit i x
 
 -- THE REGISTERS
 

@@ -1,8 +1,7 @@
 -- How many samples the waveforms of I2C take. Assumes nothing.
-use Prim.Native.Nat.{ℕ, _+_, _*_}
+use Prim.Native.Nat.{ℕ}
 use mathlib.Core.Path.{_≡_, refl}
 use native.Mathlib.Omega.{arith}
-use lib.ListN.{length}
 use Rattle.wire.specs.Action.{release}
 use Rattle.wire.specs.Sample.{samplings}
 use Rattle.wire.proofs.Samples.{samplings-append}

@@ -1,9 +1,8 @@
 -- How many samples the waveforms of 1-Wire take. Assumes nothing.
-use Prim.Native.Nat.{ℕ, _+_, _-_, _*_}
+use Prim.Native.Nat.{ℕ, _-_}
 use mathlib.Core.Path.{_≡_, refl}
-use mathlib.Core.List.{List}
 use native.Mathlib.Omega.{arith}
-use lib.ListN.{length, getD, take}
+use lib.ListN.{getD, take}
 use Rattle.wire.specs.Action.{release}
 use Rattle.wire.specs.Sample.{samplesIn, samplings}
 use Rattle.wire.proofs.Samples.{samplings-append}

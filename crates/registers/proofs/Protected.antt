@@ -1,13 +1,10 @@
--- The port registers' rules keep the protected bits, bit by bit, and a byte is its bits. Assumes nothing.
-use Prim.Native.Nat.{ℕ, zero, suc, _+_, _-_, _*_, _/_, _%_, _^_, _<_}
+-- The port registers' rules keep the protected bits, place by place. Assumes nothing.
+use Prim.Native.Nat.{ℕ, zero, suc, _/_, _%_, _<_}
 use mathlib.Core.Path.{_≡_, refl, sym, ap, _∙_}
 use native.Mathlib.Omega.{arith}
-use lib.ListN.{length, getD}
-use lib.Seq.{ext-getD}
-use Rattle.packet.specs.Register.{byteBits, number}
-use Rattle.packet.proofs.Bytes.{length-byte, byte-at, number-bits}
 use Rattle.registers.specs.Registers.{PortRegister, Ddrb, Portb, Ddrc, Portc, Ddrd, Portd, protected, keepC, keepD}
-use Rattle.registers.specs.Protected.{bit, KeepsProtected, Protected}
+use Rattle.registers.specs.Protected.{KeepsProtected, Protected}
+use Rattle.registers.proofs.Bits.{byte-by-bits}
 
 keep-c : (old new : ℕ) → KeepsProtected Ddrc old new (keepC old new)
 keep-c old new zero h = omega arith
@@ -46,17 +43,6 @@ small Ddrc old new h k = omega arith
 small Portc old new h k = omega arith
 small Ddrd old new h k = omega arith
 small Portd old new h k = omega arith
-
--- a byte is known by its bits
-pub byte-by-bits : (x y : ℕ) → x < 256 → y < 256 → ((i : ℕ) → i < 8 → bit i x ≡ bit i y) → x ≡ y
-byte-by-bits x y h k e =
-    let same : byteBits x ≡ byteBits y = ext-getD 0 (byteBits x) (byteBits y) (length-byte x ∙ sym (length-byte y)) at in
-    sym (number-bits x h) ∙ ap (number 0) same ∙ number-bits y k
-  where
-    at : (i : ℕ) → i < length (byteBits x) → getD (byteBits x) i 0 ≡ getD (byteBits y) i 0
-    at i l =
-        let j : i < 8 = omega (arith, length-byte x) in
-        byte-at x i j ∙ e (7 - i) (omega arith) ∙ sym (byte-at y i j)
 
 pub protected-right : (r : PortRegister) (old new : ℕ) → Protected r old new
 protected-right r old new = record {
