@@ -16,7 +16,8 @@ use Rattle.commands.specs.Said.{isRejected}
 use Rattle.commands.specs.Plans.{Effect, sentBy}
 use Rattle.commands.proofs.Rejects.{event-rejects}
 use Rattle.commands.proofs.Samples.{event-takes, event-same}
-use Rattle.bridge.specs.Calls.{Bridge, Ranges, Actions, Replies, Taken, Lent, Given, effect, taken, answerOf}
+use Rattle.refusals.specs.declared.Refusal.the-variants.{Ranges, Actions, Replies}
+use Rattle.bridge.specs.Calls.{Bridge, Taken, Lent, Given, effect, taken, answerOf}
 use Rattle.bridge.specs.Demands.{filled, OnlyErrorChanged, Demand2, SameSamples}
 use Rattle.bridge.proofs.Ways.{room, Went, refused-for, was-taken, went}
 use Rattle.bridge.proofs.Demand1.{not-taken, demand-1}

@@ -12,8 +12,3 @@ chosen t x y e = sym (ap (λ (b : Bool). cond b x y) e)
 pub at-most : (t : Bool) (n : ℕ) → cond t n 0 ≤ n
 at-most true n = omega arith
 at-most false n = omega arith
-
--- what both ways have
-pub either : {A : Type 0} (P : A → Type 0) (t : Bool) (x y : A) → P x → P y → P (cond t x y)
-either P true x y p q = p
-either P false x y p q = q

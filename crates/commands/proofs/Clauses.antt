@@ -4,7 +4,8 @@ use mathlib.Core.Path.{_≡_, refl}
 use mathlib.Core.Bool.{Bool, true, false, not}
 use mathlib.Core.List.{List}
 use lib.Dec.{eqb, ltb}
-use Rattle.wire.specs.Codes.{rejecting}
+use Rattle.codes.specs.Codes.{rejecting}
+use Rattle.codes.proofs.Lookup.{either}
 use Rattle.registers.specs.Registers.{i2cSelected, spiSelected, wireSelected}
 use Rattle.registers.specs.declared.State.{State}
 use Rattle.registers.specs.declared.Operand.{Operand}
@@ -26,7 +27,6 @@ use Rattle.commands.specs.declared.ExtendedCommand.the-variants as x
 use Rattle.commands.specs.declared.I2cCommand.the-variants as i
 use Rattle.commands.specs.declared.SpiCommand.the-variants as p
 use Rattle.commands.specs.declared.WireCommand.the-variants as w
-use Rattle.commands.proofs.Choices.{either}
 
 -- ANSWERS THAT REJECT NOTHING
 

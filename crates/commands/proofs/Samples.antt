@@ -7,6 +7,7 @@ use mathlib.Core.List.{List}
 use lib.Dec.{eqb, ltb}
 use lib.ListN.{length}
 use Rattle.wire.specs.Sample.{samplesIn}
+use Rattle.codes.proofs.Lookup.{either, found}
 use Rattle.packet.specs.Packet.{width, registerBytes, loaded}
 use Rattle.packet.proofs.Bytes.{length-register}
 use Rattle.registers.specs.Registers.{i2cSelected, spiSelected, wireSelected, verbOf, highFirst, bitsIn}
@@ -34,8 +35,6 @@ use Rattle.commands.specs.declared.ExtendedCommand.the-variants as x
 use Rattle.commands.specs.declared.I2cCommand.the-variants as i
 use Rattle.commands.specs.declared.SpiCommand.the-variants as p
 use Rattle.commands.specs.declared.WireCommand.the-variants as w
-use Rattle.commands.proofs.Choices.{either}
-use Rattle.commands.proofs.Lookup.{found}
 
 port-verb : (a : PortRegister) → samplesIn (verbOf a) ≡ 0
 port-verb r.Ddrb = refl

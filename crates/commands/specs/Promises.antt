@@ -4,7 +4,7 @@ use mathlib.Core.Path.{_≡_}
 use mathlib.Core.Bool.{true}
 use mathlib.Core.List.{List, [], _∷_}
 use lib.ListN.{length}
-use Rattle.wire.specs.Codes.{rejecting}
+use Rattle.codes.specs.Codes.{rejecting}
 use Rattle.wire.specs.Sample.{samplings, SameFrom}
 use Rattle.packet.specs.Packet.{width, registerBytes}
 use Rattle.registers.specs.Registers.{withPage, withError}
