@@ -3,7 +3,6 @@ use Prim.Native.Nat.{ℕ, _+_, _*_, _/_, _%_}
 use mathlib.Core.Path.{_≡_}
 use mathlib.Core.Bool.{Bool, true, false, cond}
 use mathlib.Core.List.{List, [], _∷_}
-use lib.Dec.{eqb}
 use Rattle.codes.specs.Tables.{Entry, _is_, lookup}
 use Rattle.wire.specs.Action.{waitCycles, cs, ss, portB, portC, portD}
 use Rattle.registers.specs.Registers.{spiSelected, registerOf, withRegister, withFlags, withError, withPage, withShared}
