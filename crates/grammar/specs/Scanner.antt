@@ -11,8 +11,6 @@ pub use Rattle.grammar.specs.declared.Place.the-variants.{Between, Exten
 pub use Rattle.grammar.specs.declared.Scanner.{Scanner}
 pub use Rattle.grammar.specs.declared.Scanned.{Scanned}
 pub use Rattle.grammar.specs.declared.Scanned.the-variants.{Accepted, Rejected}
-pub use Rattle.grammar.specs.declared.Opening.{Opening}
-pub use Rattle.grammar.specs.declared.Opening.the-variants.{Unknown, Known, Extension}
 
 abbrev pub between : Context → Scanner
 between c = record { context = c; place = Between }
@@ -23,19 +21,16 @@ codeFor Common c = 0x80
 codeFor (Selected i) c = 0x80
 codeFor Configured c = cond (selected SPI c) 0x40 0x80
 
--- WHAT A BYTE OPENS: the row of it in a table
+-- WHAT A BYTE OPENS: nothing that is known, a command, or 1D's second byte
+pub data Opening : Type 0 where
+  Unknown : Opening
+  Known : Command → Opening
+  Extension : Opening
+
+-- the row of it in a table
 abbrev pub rowOf : ℕ → List Command → Opening
 rowOf b [] = Unknown
 rowOf b (k ∷ ks) = cond (eqb b (k .code)) (Known k) (rowOf b ks)
-
-abbrev pub isKnown : Opening → Bool
-isKnown Unknown = false
-isKnown (Known k) = true
-isKnown Extension = false
-
--- what the row of a byte says, if the table has one
-abbrev pub RowSays : {A : Type 0} → List Command → ℕ → (Command → A) → A → Type 0
-RowSays table b part x = (k : Command) → rowOf b table ≡ Known k → x ≡ part k
 
 -- a byte between items, and a byte after 1D
 unfoldable pub openingOf : ℕ → Opening
