@@ -84,6 +84,7 @@ pub fn judge(c: Context, bytes: &[u8]) -> Verdict
             i += 1;
             continue;
         }
+        // an operand may be any byte, and only an item's last can change the context
         let n = rows::operands_of(at, b, extended) as usize;
         if bytes.len() - i <= n {
             return Verdict::Open;
