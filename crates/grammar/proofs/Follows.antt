@@ -4,7 +4,7 @@ use mathlib.Core.Path.{_≡_}
 use mathlib.Core.Bool.{true, false}
 use mathlib.Core.List.{List, [], _∷_}
 use mathlib.Core.Logic.{_↔_}
-use Rattle.wire.specs.Codes.{anyRejecting}
+use Rattle.codes.specs.Codes.{anyRejecting}
 use Rattle.grammar.specs.Scanner.{Between, Scanner, Scanned, Accepted, Rejected, scan}
 use Rattle.grammar.specs.Calls.{Machine}
 

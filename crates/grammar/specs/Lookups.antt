@@ -1,6 +1,7 @@
 -- For the contracts of private functions alone, which look a byte up without building its row: no statement speaks of these.
 use Prim.Native.Nat.{ℕ}
 use mathlib.Core.Bool.{Bool, true, false}
+use Rattle.codes.specs.Codes.{unknownCommand}
 use Rattle.grammar.specs.Grammar.{Context, Needs, Common, Selected, Configured, Effect, Keep, legal}
 use Rattle.grammar.specs.Scanner.{Opening, Unknown, Known, Extension, codeFor}
 
@@ -22,9 +23,9 @@ needsConfigured Extension = false
 
 -- the code for it where it is not accepted; 1D always is
 abbrev pub codeOf : Opening → Context → ℕ
-codeOf Unknown c = 0x80
+codeOf Unknown c = unknownCommand
 codeOf (Known k) c = codeFor (k .needs) c
-codeOf Extension c = 0x80
+codeOf Extension c = unknownCommand
 
 -- what it does to the context; 1D by itself does nothing
 abbrev pub effectOf : Opening → Effect

@@ -7,6 +7,8 @@ ghost use Rattle.grammar.specs.Lookups.{accepts, needsConfigured, codeOf
 use crate::Context;
 use crate::Effect;
 use crate::Interface;
+use codes::NO_CONFIGURATION;
+use codes::UNKNOWN_COMMAND;
 
 fn needs_configured(b: u8) -> bool
     ensures { λ r. ⌜ r ≡ needsConfigured (openingOf b) ⌝ }
@@ -63,12 +65,12 @@ pub(crate) fn code_for(c: Context, b: u8, extended: bool) -> u8
     ensures { λ r. ⌜ r ≡ codeOf (openingIn b extended) c ⌝ }
 {
     if extended {
-        return 0x80;
+        return UNKNOWN_COMMAND;
     }
     if needs_configured(b) & is_selected(Interface::SPI, c) {
-        return 0x40;
+        return NO_CONFIGURATION;
     }
-    0x80
+    UNKNOWN_COMMAND
 }
 
 // How many operands a byte has in a context; 1D's is its extended byte.

@@ -6,7 +6,8 @@ use lib.Dec.{eqb, leb, ltb}
 use lib.ListN.{getD, length}
 use Rattle.registers.specs.declared.Event.the-variants as e
 use Rattle.registers.specs.declared.Fault.the-variants as k
-use Rattle.records.specs.Records.{Kind, FaultBody, Record, part, recordAt}
+use Rattle.refusals.specs.declared.Refusal.the-variants.{Kind, FaultBody}
+use Rattle.records.specs.Records.{Record, part, recordAt}
 use Rattle.records.specs.declared.reading.Record.the-variants as r
 pub use Rattle.records.specs.declared.found.Found.{Found}
 pub use Rattle.records.specs.declared.found.Found.the-variants as f

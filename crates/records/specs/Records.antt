@@ -4,21 +4,9 @@ use mathlib.Core.Bool.{cond}
 use mathlib.Core.List.{List, [], _∷_, _++_}
 use lib.Dec.{leb, ltb}
 use lib.ListN.{getD, length, take, drop}
-pub use Rattle.records.specs.declared.Refusal.{Refusal}
-pub use Rattle.records.specs.declared.Refusal.the-variants.{Ranges, Samples, Header, Length, Passes, Kind, FaultBody, Size}
+use Rattle.refusals.specs.declared.Refusal.the-variants.{Header, Length, Passes}
 pub use Rattle.records.specs.declared.reading.Record.{Record}
 pub use Rattle.records.specs.declared.reading.Record.the-variants as r
-
--- a refusal's number in the table
-abbrev pub numberOf : Refusal → ℕ
-numberOf Ranges = 1
-numberOf Samples = 2
-numberOf Header = 5
-numberOf Length = 6
-numberOf Passes = 7
-numberOf Kind = 8
-numberOf FaultBody = 9
-numberOf Size = 10
 
 -- 16 bits at a place
 abbrev pub word : List ℕ → ℕ → ℕ

@@ -5,9 +5,9 @@ ghost use lib.ListN.{length, getD};
 ghost use Rattle.registers.specs.declared.Event.the-variants as e;
 ghost use Rattle.records.specs.Records.{recordAt};
 ghost use Rattle.records.specs.Found.{faultOf, faultBody, kindOf, taken, foundAt};
-use crate::Refusal;
 use crate::reading::Record;
 use crate::reading::record_at;
+use refusals::Refusal;
 use registers::Event;
 use registers::Fault;
 
@@ -25,15 +25,15 @@ fn fault_of(header: usize, start: usize, code: u8) -> Found
     ensures { λ r. ⌜ r ≡ faultOf header start code ⌝ }
 {
     match code {
-        0x81 => Found::Event {
+        codes::FRAME => Found::Event {
             event: Event::Fault(Fault::Frame),
             place: start,
         },
-        0x82 => Found::Event {
+        codes::OVERRUN => Found::Event {
             event: Event::Fault(Fault::Overrun),
             place: start,
         },
-        0x83 => Found::Event {
+        codes::PARITY => Found::Event {
             event: Event::Fault(Fault::Parity),
             place: start,
         },

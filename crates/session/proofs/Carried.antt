@@ -22,8 +22,8 @@ use Rattle.commands.proofs.Bounds.{event-actions, event-replies}
 use Rattle.effects.specs.Replies.{replyBytes}
 use Rattle.bridge.specs.Prepared.{Prepared}
 use Rattle.bridge.specs.declared.preparing.Ready.{Ready}
-use Rattle.records.specs.declared.Refusal.the-variants.{Samples}
 use Rattle.records.specs.Records.{headOf, recordOf}
+use Rattle.refusals.specs.declared.Refusal.the-variants.{Samples}
 use Rattle.session.specs.Replay.{Cursor, unlessEmpty, outputOf, stopped, eventTurn}
 use Rattle.session.specs.Runs.{Ran, mostOutput}
 use Rattle.session.specs.Turned.{Turned, Headed}

@@ -13,9 +13,9 @@ use Rattle.wire.specs.Buffer.{overwrite}
 use Rattle.wire.proofs.Buffers.{overwrite-length, overwrite-beyond, overwrite-through, written-after}
 use Rattle.registers.specs.Ranges.{stateFits, InRange}
 use Rattle.registers.proofs.InRange.{range-test}
-use Rattle.records.specs.declared.Refusal.{Refusal}
-use Rattle.records.specs.declared.Refusal.the-variants.{Ranges, Size}
 use Rattle.records.specs.Found.{foundAt}
+use Rattle.refusals.specs.declared.Refusal.{Refusal}
+use Rattle.refusals.specs.declared.Refusal.the-variants.{Ranges, Size}
 use Rattle.session.specs.Replay.{Cursor, Turn, turnOf, finished, stopped, stepOf, restOf}
 use Rattle.session.specs.Runs.{Ran, mostOutput, left, Runs}
 use Rattle.session.specs.Turned.{Turned, Barred}

@@ -11,7 +11,7 @@ use Rattle.registers.specs.declared.Event.{Event}
 use Rattle.commands.specs.Promises.{mostActions, mostReplies, Sized}
 use Rattle.bridge.specs.Calls.{Lent, effect, refused, taken, unless, answerOf}
 use Rattle.bridge.specs.declared.Bridge.{Bridge}
-use Rattle.bridge.specs.declared.Refusal.the-variants.{Samples}
+use Rattle.refusals.specs.declared.Refusal.the-variants.{Samples}
 use Rattle.session.specs.Replay.{Cursor, stepOf, restOf, replayOf, begin}
 pub use Rattle.session.specs.declared.replay.Ran.{Ran}
 

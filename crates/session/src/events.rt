@@ -11,7 +11,7 @@ use crate::replay::Ran;
 use crate::replay::ended;
 use bridge::Bridge;
 use bridge::preparing::prepare;
-use records::Refusal;
+use refusals::Refusal;
 use registers::Event;
 
 // The most reply bytes of an event.

@@ -11,9 +11,9 @@ ghost use Rattle.session.specs.Turned.{Turned, Barred, Advances};
 use crate::events;
 use crate::output;
 use bridge::Bridge;
-use records::Refusal;
 use records::found;
 use records::found::Found;
+use refusals::Refusal;
 
 // The most bytes of a session.
 const MOST_SESSION: usize = 32768;

@@ -4,7 +4,7 @@ use borrow.Author.Tests.{not-true, not-false}
 use mathlib.Core.Path.{sym, _∙_}
 use native.Mathlib.Omega.{arith}
 use Rattle.registers.proofs.InRange.{range-test}
-use Rattle.records.specs.declared.Refusal.the-variants.{Ranges, Size}
+use Rattle.refusals.specs.declared.Refusal.the-variants.{Ranges, Size}
 use Rattle.session.proofs.Going.{step-too-long, step-out-of-range, barred}
 use Rattle.session.proofs.replay.run.Statement.{statement}
 use Rattle.session.proofs.replay.run.Tie as tie
