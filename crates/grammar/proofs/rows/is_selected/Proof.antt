@@ -1,7 +1,7 @@
 -- Interfaces are the same where their numbers are.
 use borrow.Author.Needs.{needs}
-use Rattle.grammar.proofs.scanning.is_selected.Statement.{statement}
-use Rattle.grammar.proofs.scanning.is_selected.Tie as tie
+use Rattle.grammar.proofs.rows.is_selected.Statement.{statement}
+use Rattle.grammar.proofs.rows.is_selected.Tie as tie
 
 pub is-selected-spec : {M : Type 1} → statement M
 is-selected-spec =
