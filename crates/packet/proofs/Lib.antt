@@ -4,4 +4,5 @@ pub mod Places
 pub mod Filled
 pub mod Moves
 pub mod Loads
+pub mod Shifts
 pub mod Edges

@@ -1,16 +1,15 @@
-// The waveform of SPI, and the packet register that its samples give.
+// SPI: the waveform of an exchange, and the packet register after it.
 ghost use mathlib.Core.Path.{_≡_};
 ghost use Prim.Native.Nat.{_+_, _≤_, _<_};
 ghost use lib.ListN.{length};
 ghost use Rattle.wire.specs.Action.{bytesOf};
 ghost use Rattle.wire.specs.Buffer.{Written};
-ghost use Rattle.packet.specs.Register.{register};
-ghost use Rattle.packet.specs.Packet.{width, registerBytes, sent, received};
+ghost use Rattle.packet.specs.Packet.{width, sent};
+ghost use Rattle.packet.specs.Shift.{exchanged};
 ghost use Rattle.lines.specs.Lines.{each, levels};
-ghost use Rattle.spi_bus.specs.Spi.{spiBit, exchange};
+ghost use Rattle.spi_bus.specs.Spi.{spiBit, spiExchange};
 use lines::readings;
 use packet::Register;
-use registers::Page;
 
 const SAMPLE: u8 = wire::VERB_SAMPLE_LINE;
 
@@ -75,27 +74,26 @@ fn put_bits(
     next
 }
 
-// An exchange of N bits: SCK to CPOL, then the bits. The caller shows that the size register is in range and that the actions fit.
-pub fn put_exchange(out: &mut [u8], page: Page) -> usize
-    requires { ⌜ (page .size < width) × (length (bytesOf (exchange page)) ≤ length (now out)) ⌝ }
-    ensures { λ n. ⌜ Written (now (out .entry)) 0 (bytesOf (exchange page)) (now (out .exit)) n ⌝ }
+// The waveform of an exchange of n bits: SCK to CPOL, then the bits. The caller shows that the register has so many bits and that
+// the actions fit.
+pub fn put_exchange(out: &mut [u8], r: Register, n: u8, config: u8) -> usize
+    requires { ⌜ (n ≤ width) × (length (bytesOf (spiExchange n config r)) ≤ length (now out)) ⌝ }
+    ensures { λ k. ⌜ Written (now (out .entry)) 0 (bytesOf (spiExchange n config r)) (now (out .exit)) k ⌝ }
 {
-    let r = page.packet;
-    let n = page.size + 1;
-    let phase = page.config % 2 == 1;
-    let polarity = page.config / 2 % 2;
-    let high = page.config / 4 % 2 == 1;
+    let phase = config % 2 == 1;
+    let polarity = config / 2 % 2;
+    let high = config / 4 % 2 == 1;
     let at = wire::put_action(out, 0, lines::verb_for(HIGH, polarity), SCK, 0);
     put_bits(out, at, r, n, high, polarity, phase)
 }
 
-// The packet register after n levels were received: the lowest byte has the last eight in order, and so on upward.
+// The packet register after an exchange of n bits: the lowest byte has the last eight levels in order, and so on upward.
 // The caller shows that the register has so many bits and that the mark is not past the samples' end.
-pub fn receive(samples: &[u8], from: usize, n: u8, high: bool) -> Register
+pub fn exchange(r: Register, samples: &[u8], from: usize, n: u8, high: bool) -> Register
     requires { ⌜ (n ≤ width) × (from ≤ length (now samples)) ⌝ }
-    ensures { λ q. ⌜ q ≡ register registerBytes (received width high (levels (now (samples .entry)) from n)) ⌝ }
+    ensures { λ q. ⌜ q ≡ exchanged width high (levels (now (samples .entry)) from n) r ⌝ }
 {
-    let mut q = [0u8; packet::BYTES];
+    let mut q = r;
     let mut i: usize = packet::BYTES;
     let mut end = n;
     while 0 < i {
