@@ -8,7 +8,7 @@ use Rattle.wire.specs.Action.{bytesOf, release}
 use Rattle.lines.specs.Lines.{verbFor, each}
 use Rattle.one_wire_bus.specs.OneWire.{writeSlot, lowFirst, wireWrite}
 use Rattle.one_wire_bus.specs.declared.Waits.{Waits}
-use Rattle.lines.proofs.Rows.{joined, first-fits, second-fits, same-written, same-room}
+use Rattle.lines.proofs.Rows.{joined, first-fits, second-within, second-fits, same-written, same-room}
 use Rattle.one_wire_bus.proofs.Slots.{low-at}
 use Rattle.one_wire_bus.proofs.write.Statement.{statement}
 use Rattle.one_wire_bus.proofs.write.Tie as tie
@@ -32,6 +32,36 @@ write-spec =
     (λ c. search needs)
     (λ c. search needs)
     (λ c κs. search needs)
+    (λ c.
+    let p = c .before .before .before in
+    let g = p .before .before in
+    let s = g .before .before in
+    let n = s .args .n in
+    let byte = s .args .byte in
+    let fifth = s .args .fifth in
+    let W = g .write-waits .result in
+    let e = ap (λ (w : Waits). bytesOf (wireWrite w n fifth byte)) (sym (g .write-waits .ensures)) in
+    omega (arith, second-within (each (writeSlot W release) (take (n - 1) (lowFirst byte))) (writeSlot W fifth (getD (lowFirst byte) (n - 1) 0)) (same-room e (s .pre .1)) (p .put-bits .ensures)))
+    (λ c.
+    let p = c .before .before .before in
+    let g = p .before .before in
+    let s = g .before .before in
+    let n = s .args .n in
+    let byte = s .args .byte in
+    let fifth = s .args .fifth in
+    let W = g .write-waits .result in
+    let e = ap (λ (w : Waits). bytesOf (wireWrite w n fifth byte)) (sym (g .write-waits .ensures)) in
+    omega (arith, second-within (each (writeSlot W release) (take (n - 1) (lowFirst byte))) (writeSlot W fifth (getD (lowFirst byte) (n - 1) 0)) (same-room e (s .pre .1)) (p .put-bits .ensures)))
+    (λ c.
+    let p = c .before .before .before in
+    let g = p .before .before in
+    let s = g .before .before in
+    let n = s .args .n in
+    let byte = s .args .byte in
+    let fifth = s .args .fifth in
+    let W = g .write-waits .result in
+    let e = ap (λ (w : Waits). bytesOf (wireWrite w n fifth byte)) (sym (g .write-waits .ensures)) in
+    omega (arith, second-within (each (writeSlot W release) (take (n - 1) (lowFirst byte))) (writeSlot W fifth (getD (lowFirst byte) (n - 1) 0)) (same-room e (s .pre .1)) (p .put-bits .ensures)))
     (λ c κs.
     let p = c .before .before .before .before in
     let g = p .before .before in
@@ -42,6 +72,16 @@ write-spec =
     let W = g .write-waits .result in
     let e = ap (λ (w : Waits). bytesOf (wireWrite w n fifth byte)) (sym (g .write-waits .ensures)) in
     second-fits (each (writeSlot W release) (take (n - 1) (lowFirst byte))) (writeSlot W fifth (getD (lowFirst byte) (n - 1) 0)) (same-room e (s .pre .1)) (p .put-bits .ensures))
+    (λ c.
+    let p = c .before .before .before .before .before .before .before in
+    let g = p .before .before in
+    let s = g .before .before in
+    let n = s .args .n in
+    let byte = s .args .byte in
+    let fifth = s .args .fifth in
+    let W = g .write-waits .result in
+    let e = ap (λ (w : Waits). bytesOf (wireWrite w n fifth byte)) (sym (g .write-waits .ensures)) in
+    omega (arith, second-within (each (writeSlot W release) (take (n - 1) (lowFirst byte))) (writeSlot W fifth (getD (lowFirst byte) (n - 1) 0)) (same-room e (s .pre .1)) (p .put-bits .ensures)))
     (λ c. search needs)
     (λ c.
     let q = c .before .before in
