@@ -4,3 +4,4 @@ pub mod Places
 pub mod Filled
 pub mod Moves
 pub mod Loads
+pub mod Shifts

@@ -1,2 +1,3 @@
 pub mod Register
 pub mod Packet
+pub mod Shift

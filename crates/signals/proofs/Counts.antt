@@ -5,6 +5,7 @@ use native.Mathlib.Omega.{arith}
 use lib.ListN.{length}
 use Rattle.packet.specs.Register.{byteBits}
 use Rattle.packet.specs.Packet.{width}
+use Rattle.registers.specs.Registers.{bitsIn}
 use Rattle.registers.specs.declared.Page.{Page}
 use Rattle.lines.specs.Lines.{each}
 use Rattle.i2c_bus.specs.I2c.{i2cWrite, i2cRead}
@@ -27,7 +28,7 @@ wave-few p Start ss s h = omega arith
 wave-few p Stop ss s h = omega arith
 wave-few p (WriteI2c a) ss s h = omega arith
 wave-few p (ReadI2c a) ss s h = omega arith
-wave-few p Exchange ss s h = omega (arith, exchange-most p)
+wave-few p Exchange ss s h = omega (arith, exchange-most (bitsIn p) (p .config) (p .packet))
 wave-few p ResetWire ss s h = omega arith
 wave-few p (WriteWire a) ss s h = omega arith
 wave-few p (WriteWireBit a) ss s h = omega arith
