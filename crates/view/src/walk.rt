@@ -20,6 +20,7 @@ use crate::text::finish;
 use crate::text::say;
 use crate::text::say_count;
 use records::found::Found;
+use records::found::event_of;
 use registers::Event;
 use registers::Wait;
 use session::replay::Cursor;
@@ -96,9 +97,13 @@ fn show_event(
 fn show_untaken(color: bool, c: Cursor, session: &[u8]) {
     let found = records::found::find(session, c.at, c.end);
     let s = c.bridge.state;
-    if let Found::Event { event, place } = found {
-        say_head(color, place, s, event);
-        say(b"\n    ");
+    if let Found::Events { fault, start, end } = found {
+        if end <= session.len() {
+            if start < end {
+                say_head(color, start, s, event_of(fault, session[start]));
+                say(b"\n    ");
+            }
+        }
     }
 }
 
@@ -123,8 +128,15 @@ fn show_step(color: bool, c: Cursor, next: Cursor, session: &[u8], out: &[u8], t
     let s = c.bridge.state;
     let w = s.wait;
     match found {
-        Found::Event { event, place } => show_event(color, event, place, c, next, session, out, t),
-        Found::Bytes { start: _, end: _ } => t,
+        Found::Events { fault, start, end } => {
+            if end <= session.len() {
+                if start < end {
+                    let event = event_of(fault, session[start]);
+                    return show_event(color, event, start, c, next, session, out, t);
+                }
+            }
+            t
+        }
         Found::Samples { start: _, end: _ } => t,
         Found::End => {
             say_end(t, w);
