@@ -8,19 +8,20 @@ use Rattle.registers.specs.declared.Event.{Event}
 use Rattle.registers.specs.declared.Event.the-variants as e
 use Rattle.registers.specs.declared.Fault.{Fault}
 use Rattle.registers.specs.declared.Fault.the-variants as k
-use Rattle.records.specs.Records.{Kind, FaultBody}
+use Rattle.codes.specs.Codes.{frame, overrun, parity}
+use Rattle.refusals.specs.declared.Refusal.the-variants.{Kind, FaultBody}
 pub use Rattle.records.specs.declared.contents.Content.{Content}
 pub use Rattle.records.specs.declared.contents.Content.the-variants as c
 
 -- A FAULT'S BODY is "one byte of 81, 82, 83 hex": frame, overrun, parity
 abbrev pub isFault : ℕ → Bool
-isFault code = leb 0x81 code && leb code 0x83
+isFault code = leb frame code && leb code parity
 
 abbrev pub oneFault : List ℕ → Bool
 oneFault body = cond (eqb (length body) 1) (isFault (getD body 0 0)) false
 
 abbrev pub faultOf : ℕ → Fault
-faultOf code = cond (eqb code 0x81) k.Frame (cond (eqb code 0x82) k.Overrun k.Parity)
+faultOf code = cond (eqb code frame) k.Frame (cond (eqb code overrun) k.Overrun k.Parity)
 
 -- A BODY BY ITS KIND: events, received bytes or a line fault; samples; "a fault body is not one byte of 81, 82, 83 hex" is 9,
 -- "unknown kind" 8

@@ -1,7 +1,7 @@
 // What a session makes of a record's body: events, samples, or what can't be taken.
 ghost use mathlib.Core.Path.{_≡_};
 ghost use Rattle.records.specs.Contents.{faultOf, eventOf, isFault, oneFault, contentOf};
-use crate::Refusal;
+use refusals::Refusal;
 use registers::Event;
 use registers::Fault;
 
@@ -24,8 +24,8 @@ fn fault_of(code: u8) -> Fault
     ensures { λ r. ⌜ r ≡ faultOf code ⌝ }
 {
     match code {
-        0x81 => Fault::Frame,
-        0x82 => Fault::Overrun,
+        codes::FRAME => Fault::Frame,
+        codes::OVERRUN => Fault::Overrun,
         _ => Fault::Parity,
     }
 }
@@ -44,7 +44,7 @@ pub fn event_of(fault: bool, byte: u8) -> Event
 fn is_fault(code: u8) -> bool
     ensures { λ r. ⌜ r ≡ isFault code ⌝ }
 {
-    (0x81 <= code) & (code <= 0x83)
+    (codes::FRAME <= code) & (code <= codes::PARITY)
 }
 
 // Whether a body is one byte that is a fault's code.

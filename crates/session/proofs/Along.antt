@@ -10,12 +10,11 @@ use lib.Dec.{ltb, leb}
 use lib.ListN.{length, drop, getD, length-append}
 use Rattle.registers.specs.declared.Event.{Event}
 use Rattle.bridge.specs.Calls.{Given}
-use Rattle.bridge.specs.Calls as bridge
 use Rattle.bridge.specs.declared.Bridge.{Bridge}
 use Rattle.bridge.specs.declared.Outcome.{Outcome}
 use Rattle.bridge.specs.declared.Outcome.the-variants.{Taken, Refused}
-use Rattle.records.specs.Records.{numberOf, part, recordFrom}
-use Rattle.records.specs.declared.Refusal.the-variants.{Size}
+use Rattle.records.specs.Records.{part, recordFrom}
+use Rattle.refusals.specs.declared.Refusal.the-variants.{Size}
 use Rattle.records.specs.Contents.{eventOf, eventsOf, contentOf}
 use Rattle.records.specs.declared.reading.Record.{Record}
 use Rattle.records.specs.declared.reading.Record.the-variants as r
@@ -52,7 +51,7 @@ steps-first n s room c live h =
     ap (λ (t : Bool). cond t (stay c) (thenTurn (stepOf s c) (stepsOf n s (room - length (stepOf s c .bytes)) (stepOf s c .next))))
     ((λ k. live k || ltb room mostOutput) ∙ le-ltb room mostOutput h)
 
-pub too-long : (s : List ℕ) (c : Cursor) → 32768 < length s → stepOf s c ≡ stopped (numberOf Size) 0
+pub too-long : (s : List ℕ) (c : Cursor) → 32768 < length s → stepOf s c ≡ stopped Size 0
 unfolding stepOf
 too-long s c h = rw (lt-leb (length s) 32768 h)
 
@@ -88,7 +87,7 @@ gone c p = record { bridge = p .bridge; at = c .at + p .read; end = c .end; samp
 
 abbrev pub goneOn : ℕ → List ℕ → ℕ → Cursor → Outcome → Progress → Turn
 goneOn n s room c Taken p = thenTurn (record { next = gone c p; bytes = p .bytes; steps = p .read }) (stepsOf (n - p .read) s (room - length (p .bytes)) (gone c p))
-goneOn n s room c (Refused why) p = record { next = finished; bytes = p .bytes ++ refusalOf (bridge.numberOf why) (c .at + p .read); steps = p .read + 1 }
+goneOn n s room c (Refused why) p = record { next = finished; bytes = p .bytes ++ refusalOf why (c .at + p .read); steps = p .read + 1 }
 
 onward-some : (t : Outcome) (b : Bridge) (g : Given) (p : Progress) → onward t b g p .outcome ≡ Taken → 0 < onward t b g p .read
 onward-some Taken b g p e = omega arith
@@ -133,7 +132,7 @@ module _ (s : List ℕ) (h : length s ≤ 32768) where
         let m : 1 + (p .read + 1) ≡ 1 + p .read + 1 = omega arith in
         λ k. record {
           next = finished;
-          bytes = sym (append-assoc (outputOf g) (p .bytes) (refusalOf (bridge.numberOf why) (at k))) k;
+          bytes = sym (append-assoc (outputOf g) (p .bytes) (refusalOf why (at k))) k;
           steps = m k;
         }
 
@@ -147,9 +146,9 @@ module _ (s : List ℕ) (h : length s ≤ 32768) where
         ≡ goneOn (suc n) s room (entered c start end) (onward t (c .bridge) g (more n room) .outcome) (onward t (c .bridge) g (more n room))
     event-along n room Taken q = ap (λ (u : Turn). thenTurn (record { next = d; bytes = outputOf g; steps = 1 }) u) q ∙ joined n room (more n room .outcome) (more n room)
     event-along n room (Refused why) q =
-        let bs = refusalOf (bridge.numberOf why) start in
+        let bs = refusalOf why start in
         ap (λ (u : Turn). thenTurn (record { next = finished; bytes = bs; steps = 1 }) u) (steps-over n s (room - length bs) finished refl)
-        ∙ (λ k. record { next = finished; bytes = (append-nil bs ∙ ap (λ (v : ℕ). refusalOf (bridge.numberOf why) v) (sym (add-zero start))) k; steps = 1 })
+        ∙ (λ k. record { next = finished; bytes = (append-nil bs ∙ ap (λ (v : ℕ). refusalOf why v) (sym (add-zero start))) k; steps = 1 })
 
   -- ALONG A BODY of bytes, from a cursor in it or at its end
   abbrev Along : ℕ → Type 0

@@ -10,8 +10,7 @@ stop-spec =
     (tie.spec
     (λ c κs. search needs)
     (λ c κs. search needs)
-    (λ c κs. search needs)
     (λ c. search needs)
     (λ c.
-    let s = c .before .before .before .before .before .before .before in
-    turned-stop _ _ _ (s .pre) (c .before .before .before .before .number .ensures) (c .ended .ensures) (c .before .before .before .put-refusal .ensures)))
+    let s = c .before .before .before .before .before .before in
+    turned-stop (s .args .why) _ _ (s .pre) (c .ended .ensures) (c .before .before .before .put-refusal .ensures)))
