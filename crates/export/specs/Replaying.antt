@@ -1,13 +1,15 @@
 -- What bridge_replay of include/bridge.h gives: "Replays a session as far as surely fits into the output, and says how many bytes were
--- written." How far that is, is left open, so this is a record of the run's promises (session/specs/Runs.antt), not an equation.
-use Prim.Native.Nat.{ℕ, _≤_}
+-- written": the steps of a run (session/specs/Runs.antt).
+use Prim.Native.Nat.{ℕ}
 use mathlib.Core.Path.{_≡_}
-use mathlib.Core.Bool.{true, false, not}
+use mathlib.Core.Bool.{true, cond, not}
 use mathlib.Core.List.{List}
 use lib.Dec.{eqb}
+use lib.ListN.{length}
+use Rattle.wire.specs.Buffer.{overwrite}
 use Rattle.session.specs.declared.replay.Cursor.{Cursor}
-use Rattle.session.specs.Runs.{Runs}
-use Rattle.image.specs.Image.{isState}
+use Rattle.session.specs.Runs.{Turn, stepsOf, allSteps}
+use Rattle.image.specs.Image.{imageOf, isState}
 use Rattle.refusals.specs.Refusals.{numberOf}
 use Rattle.refusals.specs.declared.Refusal.the-variants.{Ranges}
 use Rattle.export.specs.Calls.{bridgeIn}
@@ -28,11 +30,28 @@ behind image at end sample sampled done = record { state = image; at = at; end =
 abbrev pub cursorIn : Behind → Cursor
 cursorIn h = record { bridge = bridgeIn (h .state); at = h .at; end = h .end; sample = h .sample; sampled = h .sampled; done = not (eqb (h .done) 0) }
 
--- a call on a session from a cursor h, with an output that held o: its number, the cursor h′ and the output x that it leaves, and
--- how many bytes were written
-pub record Replays (session : List ℕ) (h : Behind) (o : List ℕ) (number : ℕ) (h′ : Behind) (x : List ℕ) (written : ℕ) : Type 0 where
-  -- "1 if the image is no state"
-  pub refused : isState (h .state) ≡ false → (number ≡ numberOf Ranges) × (h′ ≡ h) × (x ≡ o) × (written ≡ 0)
-  -- else the run's promises, from the cursor that was held to the one that is
-  pub taken : isState (h .state) ≡ true
-      → (number ≡ 0) × (isState (h′ .state) ≡ true) × (h′ .done ≤ 1) × Runs session (cursorIn h) o x (record { cursor = cursorIn h′; written = written })
+-- .. and as it is handed back
+abbrev pub behindOf : Cursor → Behind
+behindOf c = behind (imageOf (c .bridge .state)) (c .at) (c .end) (c .sample) (c .sampled) (cond (c .done) 1 0)
+
+-- a call's number, the cursor and the output that it leaves, and how many bytes were written
+pub record ReplayCall : Type 0 where
+  pub number : ℕ
+  pub cursor : Behind
+  pub output : List ℕ
+  pub written : ℕ
+
+abbrev pub replayCall : ℕ → Behind → List ℕ → ℕ → ReplayCall
+replayCall n h x w = record { number = n; cursor = h; output = x; written = w }
+
+-- BRIDGE_REPLAY on a session from a cursor h, with an output that held o: "1 if the image is no state", else a run
+abbrev pub replayed : List ℕ → Turn → ReplayCall
+replayed o t = replayCall 0 (behindOf (t .next)) (overwrite o 0 (t .bytes)) (length (t .bytes))
+
+unfoldable pub replayGives : List ℕ → Behind → List ℕ → ReplayCall
+replayGives session h o = cond (isState (h .state)) (replayed o (stepsOf allSteps session (length o) (cursorIn h))) (replayCall (numberOf Ranges) h o 0)
+
+-- .. and what is handed back of the run's cursor is that cursor, so that the next call goes on from it
+pub record Replays (session : List ℕ) (h : Behind) (o : List ℕ) (r : ReplayCall) : Type 0 where
+  pub gives : r ≡ replayGives session h o
+  pub held : isState (h .state) ≡ true → (isState (r .cursor .state) ≡ true) × (cursorIn (r .cursor) ≡ stepsOf allSteps session (length o) (cursorIn h) .next)

@@ -2,7 +2,7 @@
 ghost use mathlib.Core.Path.{_≡_};
 ghost use Rattle.bridge.specs.Calls.{lent};
 ghost use Rattle.export.specs.Calls.{startCall, startGives, stepCall, stepGives, judgeCall, judgeGives, deviceOf, switchCall, switchGives};
-ghost use Rattle.export.specs.Replaying.{behind, Replays};
+ghost use Rattle.export.specs.Replaying.{behind, replayCall, Replays};
 
 mod answers;
 mod arguments;
@@ -148,7 +148,7 @@ pub extern "C" fn bridge_replay(
     output: &mut [u8],
     written: &mut usize,
 ) -> u8
-    ensures { λ r. ⌜ Replays (now (session .entry)) (behind (now (state .entry)) (now (at .entry)) (now (end .entry)) (now (sample .entry)) (now (sampled .entry)) (now (done .entry))) (now (output .entry)) r (behind (now (state .exit)) (now (at .exit)) (now (end .exit)) (now (sample .exit)) (now (sampled .exit)) (now (done .exit))) (now (output .exit)) (now (written .exit)) ⌝ }
+    ensures { λ r. ⌜ Replays (now (session .entry)) (behind (now (state .entry)) (now (at .entry)) (now (end .entry)) (now (sample .entry)) (now (sampled .entry)) (now (done .entry))) (now (output .entry)) (replayCall r (behind (now (state .exit)) (now (at .exit)) (now (end .exit)) (now (sample .exit)) (now (sampled .exit)) (now (done .exit))) (now (output .exit)) (now (written .exit))) ⌝ }
 {
     *written = 0;
     if !decoding::is_state(state) {

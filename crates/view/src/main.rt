@@ -2,6 +2,7 @@
 mod actions;
 mod commands;
 mod events;
+mod next;
 mod numbers;
 mod output;
 mod refused;

@@ -8,6 +8,8 @@ use crate::commands::say_wait;
 use crate::events::codes_of;
 use crate::events::say_head;
 use crate::events::say_left;
+use crate::next::Next;
+use crate::next::next_step;
 use crate::output::ACTIONS;
 use crate::output::Part;
 use crate::output::REPLIES;
@@ -19,7 +21,6 @@ use crate::refused::say_refusal;
 use crate::text::finish;
 use crate::text::say;
 use crate::text::say_count;
-use records::found::Found;
 use registers::Event;
 use registers::Wait;
 use session::replay::Cursor;
@@ -94,9 +95,9 @@ fn show_event(
 
 // The event that too few samples are left for.
 fn show_untaken(color: bool, c: Cursor, session: &[u8]) {
-    let found = records::found::find(session, c.at, c.end);
+    let next = next_step(session, c.at, c.end);
     let s = c.bridge.state;
-    if let Found::Event { event, place } = found {
+    if let Next::Event { event, place } = next {
         say_head(color, place, s, event);
         say(b"\n    ");
     }
@@ -119,18 +120,16 @@ fn show_step(color: bool, c: Cursor, next: Cursor, session: &[u8], out: &[u8], t
         show_refusal(color, r, c, session, t);
         return t;
     }
-    let found = records::found::find(session, c.at, c.end);
+    let made = next_step(session, c.at, c.end);
     let s = c.bridge.state;
     let w = s.wait;
-    match found {
-        Found::Event { event, place } => show_event(color, event, place, c, next, session, out, t),
-        Found::Bytes { start: _, end: _ } => t,
-        Found::Samples { start: _, end: _ } => t,
-        Found::End => {
+    match made {
+        Next::Event { event, place } => show_event(color, event, place, c, next, session, out, t),
+        Next::Nothing => t,
+        Next::End => {
             say_end(t, w);
             t
         }
-        Found::Refused { why: _, place: _ } => t,
     }
 }
 

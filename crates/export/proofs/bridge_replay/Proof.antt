@@ -1,4 +1,4 @@
--- No state, or the run's promises.
+-- No state, or the run.
 use borrow.Author.Needs.{needs}
 use borrow.Author.Tests.{not-true, not-false}
 use mathlib.Core.Path.{sym, _∙_}

@@ -12,11 +12,11 @@ write-chunk-spec =
     (tie.spec
     (λ c κs. search needs)
     (λ c. search needs)
-    (λ c. simp length-take (omega (arith, c .before .before .before .before .run .ensures .within)))
+    (λ c. simp length-take (omega (arith, c .before .before .before .before .run .ensures .made .within)))
     (λ c κs. search needs)
     (λ c. search needs)
     (λ c κs. search needs)
     (λ c. search needs)
     (λ c live. let s = c .before .before .before .before .before .before .before .before .before .before .before .before in omega (arith, left-live (s .args .session .now) (s .args .cursor) live))
     (λ c. search needs)
-    (λ c. c .before .before .before .before .before .before .run .ensures .further (c .before .before .before .before .before .before .before .before .before .before .pre)))
+    (λ c. c .before .before .before .before .before .before .run .ensures .further (omega arith) (c .before .before .before .before .before .before .before .before .before .before .pre)))

@@ -1,0 +1,16 @@
+-- The last record, and a cursor that is over.
+use borrow.Author.Needs.{needs}
+use Rattle.session.proofs.Playing.{turned-last}
+use Rattle.session.proofs.replay.last.Statement.{statement}
+use Rattle.session.proofs.replay.last.Tie as tie
+
+pub last-spec : {M : Type 1} → statement M
+last-spec =
+    tie.close
+    (tie.spec
+    (λ c κs. search needs)
+    (λ c κs. search needs)
+    (λ c. search needs)
+    (λ c.
+    let s = c .before .before .before .before .before .before .before in
+    turned-last (s .args .c .bridge .state .wait) _ (s .pre) (c .ended .ensures) (c .before .before .before .put-last .ensures)))
