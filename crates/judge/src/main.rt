@@ -1,28 +1,9 @@
 // Judges command bytes from the factory start: those of standard input, or of the file that the argument names. Prints `whole`,
 // `open` or `wrong at K` in a line.
 use bridge::Judgement;
-use grammar::Verdict;
 use input::Input;
 use libc::STDERR_FILENO;
 use libc::STDOUT_FILENO;
-
-fn say_place(k: usize) {
-    io::write_all(STDOUT_FILENO, b"wrong at ");
-    io::print_decimal(STDOUT_FILENO, k as u64);
-    io::write_all(STDOUT_FILENO, b"\n");
-}
-
-fn say(v: Verdict) {
-    match v {
-        Verdict::Whole => {
-            io::write_all(STDOUT_FILENO, b"whole\n");
-        }
-        Verdict::Open => {
-            io::write_all(STDOUT_FILENO, b"open\n");
-        }
-        Verdict::Wrong(k) => say_place(k),
-    }
-}
 
 // The factory start is in range and waits for nothing, so it is never refused.
 fn answer(bytes: &[u8]) {
@@ -30,7 +11,7 @@ fn answer(bytes: &[u8]) {
     let Judgement::Judged(v) = b.judge(bytes) else {
         return;
     };
-    say(v);
+    verdicts::write_verdict(STDOUT_FILENO, v);
 }
 
 fn to_go_on() -> bool {
