@@ -1,7 +1,7 @@
 #!/usr/bin/env python3
 """What `view` must write, from the model alone.
 
-python3 tests/view.py target/bin/view tries the arguments and compares the two on the sessions of `vectors` and on random ones.
+python3 tests/view.py target/bin/view compares the two on the sessions of `vectors` and on random ones, and without its colours.
 Text in quotes in the comments is from 01.
 """
 import re
@@ -169,18 +169,12 @@ def run(program, *arguments, given=b""):
     done = subprocess.run([program, *arguments], input=given, stdout=subprocess.PIPE, stderr=subprocess.PIPE, check=True)
     return done.stdout.decode(), done.stderr.decode()
 
-def check_arguments(program):
-    usage = run(program, "--help")[0]
-    assert usage.startswith("usage: view [--color] [FILE]\n")
-    for words, wrong in (("--colour", "--colour"), ("-", "-"), ("a b", "b"), ("--color -x -y", "-x")):
-        assert run(program, *words.split()) == ("", f"{wrong}: unknown argument\n" + usage), words
-    text, error = run(program, "no such file")
-    assert not text and error.startswith("no such file: ")
+def check_colors(program):
     plain, (colored, _) = view(stored()), run(program, "--color", given=stored())
     assert "\x1b" in colored and re.sub("\x1b\\[[0-9]*m", "", colored) == plain
 
 def compare(program):
-    check_arguments(program)
+    check_colors(program)
     sessions = [given for part in PARTS for given in part()] + [random_session(seed) for seed in range(20000, 20500)]
     differ = 0
     for given in sessions:
