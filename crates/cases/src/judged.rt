@@ -3,13 +3,19 @@ use crate::text::say;
 use crate::text::say_refused;
 use bridge::Bridge;
 use bridge::Judgement;
+use grammar::Verdict;
 use image::decoding;
-use libc::STDOUT_FILENO;
+
+fn show_verdict(v: Verdict) {
+    let mut line = [0u8; verdicts::ROOM];
+    let n = verdicts::put_verdict(&mut line, v);
+    say(&line[..n]);
+}
 
 fn show_judged(start: Bridge, bytes: &[u8]) {
     let judgement = start.judge(bytes);
     match judgement {
-        Judgement::Judged(v) => verdicts::write_verdict(STDOUT_FILENO, v),
+        Judgement::Judged(v) => show_verdict(v),
         Judgement::Refused(why) => {
             say_refused(bridge::number(why));
             say(b"\n");

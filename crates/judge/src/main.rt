@@ -1,9 +1,16 @@
 // Judges command bytes from the factory start: those of standard input, or of the file that the argument names. Prints `whole`,
 // `open` or `wrong at K` in a line.
 use bridge::Judgement;
+use grammar::Verdict;
 use input::Input;
 use libc::STDERR_FILENO;
 use libc::STDOUT_FILENO;
+
+fn say(v: Verdict) {
+    let mut line = [0u8; verdicts::ROOM];
+    let n = verdicts::put_verdict(&mut line, v);
+    io::write_all(STDOUT_FILENO, &line[..n]);
+}
 
 // The factory start is in range and waits for nothing, so it is never refused.
 fn answer(bytes: &[u8]) {
@@ -11,7 +18,7 @@ fn answer(bytes: &[u8]) {
     let Judgement::Judged(v) = b.judge(bytes) else {
         return;
     };
-    verdicts::write_verdict(STDOUT_FILENO, v);
+    say(v);
 }
 
 fn to_go_on() -> bool {
