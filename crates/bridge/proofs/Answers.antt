@@ -11,7 +11,8 @@ use Rattle.registers.specs.Ranges.{stateFits}
 use Rattle.registers.specs.declared.State.{State}
 use Rattle.registers.specs.declared.Event.{Event}
 use Rattle.commands.specs.Plans.{sentBy}
-use Rattle.bridge.specs.Calls.{Bridge, Ranges, Samples, Actions, Replies, Lent, effect, given, refusal, acceptance, answerOf}
+use Rattle.refusals.specs.declared.Refusal.the-variants.{Ranges, Samples, Actions, Replies}
+use Rattle.bridge.specs.Calls.{Bridge, Lent, effect, given, refusal, acceptance, answerOf}
 
 module _ (b : Bridge) (e : Event) (l : Lent) where
   pub refuse-ranges : stateFits (b .state) ≡ false → given (refusal b Ranges) (l .actions) (l .replies) ≡ answerOf b e l

@@ -3,7 +3,9 @@ use mathlib.Core.Path.{_≡_, refl, sym, ap, subst}
 use mathlib.Core.Bool.{false≢true}
 use mathlib.Core.Logic.{_↔_}
 use Rattle.registers.specs.declared.Event.{Event}
-use Rattle.bridge.specs.Calls.{Bridge, Refusal, Ranges, Outcome, Taken, Refused, Lent, Given, refused, answerOf}
+use Rattle.refusals.specs.declared.Refusal.{Refusal}
+use Rattle.refusals.specs.declared.Refusal.the-variants.{Ranges}
+use Rattle.bridge.specs.Calls.{Bridge, Outcome, Taken, Refused, Lent, Given, refused, answerOf}
 use Rattle.bridge.specs.Demands.{Applies, Lowest, Demand1, isRefused}
 use Rattle.bridge.proofs.Ways.{Went, refused-for, was-taken, lowest-one, went}
 

@@ -12,7 +12,8 @@ use Rattle.registers.specs.declared.Event.{Event}
 use Rattle.commands.specs.Said.{isRejected}
 use Rattle.commands.specs.Plans.{sentBy}
 use Rattle.commands.proofs.Rejects.{event-rejects}
-use Rattle.bridge.specs.Calls.{Bridge, Actions, Replies, Taken, Lent, Given, effect, taken, answerOf}
+use Rattle.refusals.specs.declared.Refusal.the-variants.{Actions, Replies}
+use Rattle.bridge.specs.Calls.{Bridge, Taken, Lent, Given, effect, taken, answerOf}
 use Rattle.bridge.specs.Demands.{filled, OnlyErrorChanged, Demand2}
 use Rattle.bridge.proofs.Ways.{room, Went, refused-for, was-taken, went}
 use Rattle.bridge.proofs.Demand1.{not-taken, demand-1}

@@ -12,7 +12,8 @@ use Rattle.registers.proofs.InRange.{range-test}
 use Rattle.grammar.specs.Verdict.{judgeOf, Says}
 use Rattle.grammar.specs.declared.Verdict.{Verdict}
 use Rattle.grammar.proofs.Verdicts.{judge-right}
-use Rattle.bridge.specs.Calls.{Bridge, Ranges, Waits}
+use Rattle.refusals.specs.declared.Refusal.the-variants.{Ranges, Waits}
+use Rattle.bridge.specs.Calls.{Bridge}
 use Rattle.bridge.specs.Views.{contextOf}
 use Rattle.bridge.specs.Judging.{Judgement, Judged, Refused, isIdle, judgementOf, JudgeCall}
 

@@ -1,13 +1,12 @@
 -- The ways that a call can go: refused for the lowest reason that applies, or taken. Assumes nothing.
 use Prim.Native.Nat.{ℕ, _+_, _≤_, _<_}
-use mathlib.Core.Path.{_≡_, refl, sym, ap, _∙_}
-use mathlib.Core.Bool.{Bool, true, false, cond, false≢true}
+use mathlib.Core.Path.{_≡_, refl, sym, _∙_}
+use mathlib.Core.Bool.{Bool, true, false, false≢true}
 use mathlib.Core.List.{List}
 use mathlib.Core.Logic.{inl, inr}
 use native.Mathlib.Omega.{arith}
 use native.Mathlib.Decide.{decLt}
 use borrow.Author.Tests.{leb-true, leb-false}
-use lib.Dec.{eqb}
 use lib.ListN.{length}
 use Rattle.wire.specs.Action.{bytesOf}
 use Rattle.wire.specs.Buffer.{fitsIn}
@@ -15,7 +14,11 @@ use Rattle.registers.specs.Ranges.{stateFits, InRange}
 use Rattle.registers.specs.declared.Event.{Event}
 use Rattle.registers.proofs.InRange.{range-test}
 use Rattle.commands.specs.Plans.{sentBy}
-use Rattle.bridge.specs.Calls.{Bridge, Refusal, Ranges, Samples, Actions, Replies, Waits, numberOf, Lent, Given, effect, refused, taken, unless, answerOf}
+use Rattle.refusals.specs.Refusals.{numberOf}
+use Rattle.refusals.specs.declared.Refusal.{Refusal}
+use Rattle.refusals.specs.declared.Refusal.the-variants.{Ranges, Samples, Actions, Replies, Header, Length, Passes, Kind, FaultBody, Size, Factory, Waits}
+use Rattle.refusals.proofs.Numbers.{same-number, by-number}
+use Rattle.bridge.specs.Calls.{Bridge, Lent, Given, effect, refused, taken, unless, answerOf}
 use Rattle.bridge.specs.Demands.{TooFew, Applies, Lowest}
 
 -- ROOM
@@ -44,17 +47,6 @@ enough bytes mark need e (inr h) = omega (arith, leb-true (mark + need) (length 
 
 -- ONE REASON IS THE LOWEST
 
-refusalAt : ℕ → Refusal
-refusalAt n = cond (eqb n 1) Ranges (cond (eqb n 2) Samples (cond (eqb n 3) Actions (cond (eqb n 4) Replies Waits)))
-
-number-back : (r : Refusal) → refusalAt (numberOf r) ≡ r
-unfolding refusalAt
-number-back Ranges = refl
-number-back Samples = refl
-number-back Actions = refl
-number-back Replies = refl
-number-back Waits = refl
-
 pub data Went (b : Bridge) (e : Event) (l : Lent) : Given → Type 0 where
   refused-for : (r : Refusal) → Lowest b e l r → Went b e l (refused b l r)
   was-taken : ((r : Refusal) → ¬ Applies b e l r) → Went b e l (taken (effect b e l) l)
@@ -66,52 +58,49 @@ module _ (b : Bridge) (e : Event) (l : Lent) where
       go : Dec (numberOf r < numberOf q) → Dec (numberOf q < numberOf r) → r ≡ q
       go (yes h) d = absurd (y .1 r h (x .0))
       go (no h) (yes k) = absurd (x .1 q k (y .0))
-      go (no h) (no k) = let n : numberOf r ≡ numberOf q = omega arith in sym (number-back r) ∙ ap refusalAt n ∙ number-back q
+      go (no h) (no k) = same-number r q (omega arith)
 
   -- no reason below a number applies
   Clear : ℕ → Type 0
   Clear n = (q : Refusal) → numberOf q < n → ¬ Applies b e l q
 
+  None : Refusal → Type 0
+  None q = ¬ Applies b e l q
+
   clear-ranges : Clear 1
-  unfolding Clear
-  clear-ranges Ranges h = absurd (omega arith)
-  clear-ranges Samples h = absurd (omega arith)
-  clear-ranges Actions h = absurd (omega arith)
-  clear-ranges Replies h = absurd (omega arith)
-  clear-ranges Waits h = absurd (omega arith)
+  unfolding Clear None
+  clear-ranges q h = by-number None q (λ n. absurd (omega (arith, h))) (λ n. absurd (omega (arith, h))) (λ n. absurd (omega (arith, h))) (λ n. absurd (omega (arith, h))) (λ n. absurd (omega (arith, h)))
 
   clear-samples : InRange (b .state) → Clear 2
-  unfolding Clear
-  clear-samples r Ranges h = λ n. n r
-  clear-samples r Samples h = absurd (omega arith)
-  clear-samples r Actions h = absurd (omega arith)
-  clear-samples r Replies h = absurd (omega arith)
-  clear-samples r Waits h = absurd (omega arith)
+  unfolding Clear None
+  clear-samples r q h = by-number None q (λ n a. a r) (λ n. absurd (omega (arith, h))) (λ n. absurd (omega (arith, h))) (λ n. absurd (omega (arith, h))) (λ n. absurd (omega (arith, h)))
 
   -- one more reason that does not apply
   clear-actions : Clear 2 → ¬ Applies b e l Samples → Clear 3
-  unfolding Clear
-  clear-actions c n Ranges h = c Ranges (omega arith)
-  clear-actions c n Samples h = n
-  clear-actions c n Actions h = absurd (omega arith)
-  clear-actions c n Replies h = absurd (omega arith)
-  clear-actions c n Waits h = absurd (omega arith)
+  unfolding Clear None
+  clear-actions c x q h = by-number None q (λ n. c Ranges (omega arith)) (λ n. x) (λ n. absurd (omega (arith, h))) (λ n. absurd (omega (arith, h))) (λ n. absurd (omega (arith, h)))
 
   clear-replies : Clear 3 → ¬ Applies b e l Actions → Clear 4
-  unfolding Clear
-  clear-replies c n Ranges h = c Ranges (omega arith)
-  clear-replies c n Samples h = c Samples (omega arith)
-  clear-replies c n Actions h = n
-  clear-replies c n Replies h = absurd (omega arith)
-  clear-replies c n Waits h = absurd (omega arith)
+  unfolding Clear None
+  clear-replies c x q h = by-number None q (λ n. c Ranges (omega arith)) (λ n. c Samples (omega arith)) (λ n. x) (λ n. absurd (omega (arith, h))) (λ n. absurd (omega (arith, h)))
+
+  of-no-event : (q : Refusal) → 4 < numberOf q → ¬ Applies b e l q
+  of-no-event Ranges h = absurd (omega (arith, h))
+  of-no-event Samples h = absurd (omega (arith, h))
+  of-no-event Actions h = absurd (omega (arith, h))
+  of-no-event Replies h = absurd (omega (arith, h))
+  of-no-event Header h = λ z. z
+  of-no-event Length h = λ z. z
+  of-no-event Passes h = λ z. z
+  of-no-event Kind h = λ z. z
+  of-no-event FaultBody h = λ z. z
+  of-no-event Size h = λ z. z
+  of-no-event Factory h = λ z. z
+  of-no-event Waits h = λ z. z
 
   clear-all : Clear 4 → ¬ Applies b e l Replies → (r : Refusal) → ¬ Applies b e l r
-  unfolding Clear
-  clear-all c n Ranges = c Ranges (omega arith)
-  clear-all c n Samples = c Samples (omega arith)
-  clear-all c n Actions = c Actions (omega arith)
-  clear-all c n Replies = n
-  clear-all c n Waits = λ z. z
+  unfolding Clear None
+  clear-all c x q = by-number None q (λ n. c Ranges (omega arith)) (λ n. c Samples (omega arith)) (λ n. c Actions (omega arith)) (λ n. x) (of-no-event q)
 
   pub went : Went b e l (answerOf b e l)
   unfolding answerOf Clear

@@ -11,20 +11,12 @@ use Rattle.registers.specs.declared.State.{State}
 use Rattle.registers.specs.declared.Event.{Event}
 use Rattle.commands.specs.Plans.{Effect, sentBy}
 use Rattle.commands.specs.Events.{effectOf}
+use Rattle.refusals.specs.declared.Refusal.{Refusal}
+use Rattle.refusals.specs.declared.Refusal.the-variants.{Ranges, Samples, Actions, Replies}
 pub use Rattle.bridge.specs.declared.Bridge.{Bridge}
-pub use Rattle.bridge.specs.declared.Refusal.{Refusal}
-pub use Rattle.bridge.specs.declared.Refusal.the-variants.{Ranges, Samples, Actions, Replies, Waits}
 pub use Rattle.bridge.specs.declared.Outcome.{Outcome}
 pub use Rattle.bridge.specs.declared.Outcome.the-variants.{Taken, Refused}
 pub use Rattle.bridge.specs.declared.Stepped.{Stepped}
-
--- a refusal's number in the table
-abbrev pub numberOf : Refusal → ℕ
-numberOf Ranges = 1
-numberOf Samples = 2
-numberOf Actions = 3
-numberOf Replies = 4
-numberOf Waits = 12
 
 -- what a call is lent: samples, and a buffer each for actions and replies; each with its mark (01's term), the bytes of it used
 pub record Lent : Type 0 where

@@ -17,7 +17,10 @@ use Rattle.commands.specs.Plans.{sentBy}
 use Rattle.grammar.specs.Calls.{Machine, Call}
 use Rattle.grammar.specs.Calls as grammar
 use Rattle.grammar.specs.Following.{Leads}
-use Rattle.bridge.specs.Calls.{Bridge, Refusal, Ranges, Samples, Actions, Replies, Waits, Outcome, Taken, Refused, numberOf, Lent, effect, refused, taken, answerOf}
+use Rattle.refusals.specs.Refusals.{numberOf}
+use Rattle.refusals.specs.declared.Refusal.{Refusal}
+use Rattle.refusals.specs.declared.Refusal.the-variants.{Ranges, Samples, Actions, Replies, Header, Length, Passes, Kind, FaultBody, Size, Factory, Waits}
+use Rattle.bridge.specs.Calls.{Bridge, Outcome, Taken, Refused, Lent, effect, refused, taken, answerOf}
 use Rattle.bridge.specs.Views.{contextOf}
 
 abbrev pub outcome : Bridge → Event → Lent → Outcome
@@ -40,7 +43,14 @@ Applies b e l Samples = TooFew (l .samples) (l .sampled) ((effect b e l) .used)
 Applies b e l Actions = TooFew (l .actions) (l .acted) (length (bytesOf ((effect b e l) .actions)))
 -- 4 "the replies do not fit"
 Applies b e l Replies = TooFew (l .replies) (l .replied) (length (sentBy (effect b e l)))
--- 12 is the judge's
+-- 5 to 10 are a session's, 11 is switch-on's and 12 the judge's
+Applies b e l Header = ⊥
+Applies b e l Length = ⊥
+Applies b e l Passes = ⊥
+Applies b e l Kind = ⊥
+Applies b e l FaultBody = ⊥
+Applies b e l Size = ⊥
+Applies b e l Factory = ⊥
 Applies b e l Waits = ⊥
 
 -- "The lowest number that applies is given"

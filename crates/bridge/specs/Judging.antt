@@ -9,7 +9,8 @@ use Rattle.registers.specs.declared.Wait.{Wait}
 use Rattle.registers.specs.declared.Wait.the-variants as v
 use Rattle.grammar.specs.Verdict.{judgeOf, Says}
 use Rattle.grammar.specs.declared.Verdict.{Verdict}
-use Rattle.bridge.specs.Calls.{Bridge, Ranges, Waits}
+use Rattle.refusals.specs.declared.Refusal.the-variants.{Ranges, Waits}
+use Rattle.bridge.specs.Calls.{Bridge}
 use Rattle.bridge.specs.Views.{contextOf}
 pub use Rattle.bridge.specs.declared.Judgement.{Judgement}
 pub use Rattle.bridge.specs.declared.Judgement.the-variants.{Judged, Refused}

@@ -6,10 +6,10 @@ ghost use Rattle.bridge.specs.Views.{interfaceOf, contextOf};
 ghost use Rattle.bridge.specs.Judging.{judgementOf};
 use crate::Bridge;
 use crate::Judgement;
-use crate::Refusal;
 use crate::is_idle;
 use grammar::Context;
 use grammar::Interface;
+use refusals::Refusal;
 use registers::State;
 
 // The interface that the flags select.

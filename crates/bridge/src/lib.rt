@@ -3,12 +3,13 @@ ghost use mathlib.Core.Path.{_≡_};
 ghost use Prim.Native.Nat.{_/_};
 ghost use Rattle.registers.specs.Ranges.{InRange};
 ghost use Rattle.bridge.specs.Judging.{isIdle};
-ghost use Rattle.bridge.specs.Calls.{numberOf, refusal, acceptance, given, lent, answerOf};
+ghost use Rattle.bridge.specs.Calls.{refusal, acceptance, given, lent, answerOf};
 
 mod judging;
 pub mod preparing;
 
 use grammar::Verdict;
+use refusals::Refusal;
 use registers::Event;
 use registers::State;
 use registers::Wait;
@@ -16,15 +17,6 @@ use registers::Wait;
 // The bridge that a call takes and hands back: the state of the crates below, by value.
 pub struct Bridge {
     pub state: State,
-}
-
-// Why a call is refused; `numberOf` in the definitions gives each its number.
-pub enum Refusal {
-    Ranges,
-    Samples,
-    Actions,
-    Replies,
-    Waits,
 }
 
 // Whether a call was taken.
@@ -46,19 +38,6 @@ pub struct Stepped {
 pub enum Judgement {
     Judged(Verdict),
     Refused(Refusal),
-}
-
-// A refusal's number in 01.
-pub fn number(r: Refusal) -> u8
-    ensures { λ n. ⌜ n ≡ numberOf r ⌝ }
-{
-    match r {
-        Refusal::Ranges => 1,
-        Refusal::Samples => 2,
-        Refusal::Actions => 3,
-        Refusal::Replies => 4,
-        Refusal::Waits => 12,
-    }
 }
 
 // Whether nothing is waited for.

@@ -17,7 +17,7 @@ fn show_judged(start: Bridge, bytes: &[u8]) {
     match judgement {
         Judgement::Judged(v) => show_verdict(v),
         Judgement::Refused(why) => {
-            say_refused(bridge::number(why));
+            say_refused(refusals::number(why));
             say(b"\n");
         }
     }

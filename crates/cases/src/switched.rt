@@ -21,7 +21,7 @@ const BEFORE: u8 = 0xA5;
 fn show_outcome(o: Outcome) {
     match o {
         Outcome::On => say(b"on"),
-        Outcome::Refused(why) => say_refused(switch_on::number(why)),
+        Outcome::Refused(why) => say_refused(refusals::number(why)),
     }
 }
 

@@ -4,7 +4,7 @@ use mathlib.Core.Path.{_≡_, refl}
 use mathlib.Core.Bool.{Bool, true, false, not, cond}
 use mathlib.Core.List.{List}
 use lib.Dec.{eqb, ltb}
-use Rattle.wire.specs.Codes.{rejecting}
+use Rattle.codes.specs.Codes.{rejecting}
 use Rattle.registers.specs.Registers.{i2cSelected, spiSelected, wireSelected}
 use Rattle.registers.specs.declared.State.{State}
 use Rattle.registers.specs.declared.Operand.{Operand}

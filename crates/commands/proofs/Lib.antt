@@ -1,5 +1,4 @@
 -- Laws that the proofs of this crate and of the crates above cite.
-pub mod Lookup
 pub mod Choices
 pub mod Sent
 pub mod KeptParts

@@ -4,7 +4,7 @@ use mathlib.Core.Path.{_≡_, refl, sym, ap, _∙_, subst}
 use mathlib.Core.Bool.{Bool, true, false, not, cond, _||_, true≢false, false≢true}
 use mathlib.Core.List.{List, map}
 use lib.Dec.{eqb}
-use Rattle.wire.specs.Codes.{rejecting, anyRejecting}
+use Rattle.codes.specs.Codes.{rejecting, anyRejecting}
 use Rattle.packet.specs.Packet.{lowBytes}
 use Rattle.registers.specs.Registers.{bitsIn}
 use Rattle.registers.specs.declared.State.{State}

@@ -3,6 +3,7 @@ use Prim.Native.Nat.{ℕ, _+_, _*_, _/_, _%_}
 use mathlib.Core.Bool.{Bool, true, false, cond}
 use mathlib.Core.List.{List, [], _∷_}
 use lib.Dec.{eqb}
+use Rattle.codes.specs.Tables.{Entry, _is_, lookup}
 use Rattle.wire.specs.Action.{waitCycles, cs, ss, portB, portC, portD}
 use Rattle.registers.specs.Registers.{spiSelected, registerOf, withRegister, withFlags, withError, withPage, withShared}
 use Rattle.registers.specs.declared.Page.{Page}
@@ -19,18 +20,6 @@ pub use Rattle.commands.specs.declared.CommonCommand.{CommonCommand}
 pub use Rattle.commands.specs.declared.CommonCommand.the-variants as k
 
 -- A BYTE'S COMMAND, by a table
-pub record Entry (A : Type 0) : Type 0 where
-  pub code : ℕ
-  pub command : A
-
-infixl 90 _is_
-abbrev pub _is_ : {A : Type 0} → ℕ → A → Entry A
-b is x = record { code = b; command = x }
-
-abbrev pub lookup : {A : Type 0} → A → ℕ → List (Entry A) → A
-lookup unknown b [] = unknown
-lookup unknown b (e ∷ es) = cond (eqb b (e .code)) (e .command) (lookup unknown b es)
-
 abbrev pub commonTable : List (Entry CommonCommand)
 commonTable =
     0x00 is k.ResetDevice ∷ 0x01 is k.ChooseI2c ∷ 0x02 is k.ChooseSpi ∷ 0x03 is k.ChooseWire

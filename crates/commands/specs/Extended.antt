@@ -3,6 +3,7 @@
 use Prim.Native.Nat.{ℕ}
 use mathlib.Core.Bool.{Bool, true, false, not}
 use mathlib.Core.List.{List, [], _∷_}
+use Rattle.codes.specs.Tables.{Entry, _is_, lookup}
 use Rattle.wire.specs.Action.{waitMicroseconds, waitMilliseconds}
 use Rattle.registers.specs.Registers.{registerOf, withRegister, verbOf, lineOf, settled}
 use Rattle.registers.specs.declared.State.{State}
@@ -12,7 +13,7 @@ use Rattle.registers.specs.declared.Operand.the-variants as o
 use Rattle.registers.specs.declared.Wait.the-variants as v
 use Rattle.signals.specs.declared.Waveform.the-variants as w
 use Rattle.commands.specs.Plans.{Plan, Sends, returns, sends, performs, awaits}
-use Rattle.commands.specs.Common.{Entry, _is_, lookup, Three, Four, Five, withBit}
+use Rattle.commands.specs.Common.{Three, Four, Five, withBit}
 pub use Rattle.commands.specs.declared.ExtendedCommand.{ExtendedCommand}
 pub use Rattle.commands.specs.declared.ExtendedCommand.the-variants as k
 

@@ -1,13 +1,13 @@
 -- The commands of I2C (01, "I2C"); what they do on the lines is in the signals' definitions.
 use Prim.Native.Nat.{ℕ}
 use mathlib.Core.List.{List, [], _∷_}
+use Rattle.codes.specs.Tables.{Entry, _is_, lookup}
 use Rattle.wire.specs.Action.{driveLow, driveHigh, cs}
 use Rattle.registers.specs.declared.State.{State}
 use Rattle.registers.specs.declared.Operand.the-variants as o
 use Rattle.registers.specs.declared.Wait.the-variants as v
 use Rattle.signals.specs.declared.Waveform.the-variants as w
 use Rattle.commands.specs.Plans.{Plan, SendsSample, SendsLevel, plan, returns, performs, awaits}
-use Rattle.commands.specs.Common.{Entry, _is_, lookup}
 pub use Rattle.commands.specs.declared.I2cCommand.{I2cCommand}
 pub use Rattle.commands.specs.declared.I2cCommand.the-variants as k
 

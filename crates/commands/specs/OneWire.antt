@@ -1,13 +1,13 @@
 -- The commands of 1-Wire (01, "1-Wire").
 use Prim.Native.Nat.{ℕ}
 use mathlib.Core.List.{List, [], _∷_}
+use Rattle.codes.specs.Tables.{Entry, _is_, lookup}
 use Rattle.wire.specs.Action.{release, dq, waitMicroseconds, waitMilliseconds}
 use Rattle.registers.specs.declared.State.{State}
 use Rattle.registers.specs.declared.Operand.the-variants as o
 use Rattle.registers.specs.declared.Wait.the-variants as v
 use Rattle.signals.specs.declared.Waveform.the-variants as w
 use Rattle.commands.specs.Plans.{Plan, Checked, SendsSample, SendsLevel, SendsTimings, plan, returns, sends, performs, awaits}
-use Rattle.commands.specs.Common.{Entry, _is_, lookup}
 pub use Rattle.commands.specs.declared.WireCommand.{WireCommand}
 pub use Rattle.commands.specs.declared.WireCommand.the-variants as k
 

@@ -3,7 +3,7 @@
 use Prim.Native.Nat.{ℕ}
 use mathlib.Core.Bool.{Bool, cond}
 use mathlib.Core.List.{List, [], _∷_}
-use Rattle.wire.specs.Codes.{anyRejecting}
+use Rattle.codes.specs.Codes.{anyRejecting}
 
 -- a code returned (01's term), a byte sent, or a code that is returned and sent whatever REPORTS_EN is
 pub data Said : Type 0 where

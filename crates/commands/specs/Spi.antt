@@ -2,6 +2,7 @@
 use Prim.Native.Nat.{ℕ}
 use mathlib.Core.Bool.{true, false, cond}
 use mathlib.Core.List.{List, [], _∷_}
+use Rattle.codes.specs.Tables.{Entry, _is_, lookup}
 use Rattle.packet.specs.Packet.{packetBytes}
 use Rattle.wire.specs.Action.{driveLow, driveHigh, ss}
 use Rattle.registers.specs.Registers.{bitsIn}
@@ -10,7 +11,6 @@ use Rattle.registers.specs.declared.Operand.the-variants as o
 use Rattle.registers.specs.declared.Wait.the-variants as v
 use Rattle.signals.specs.declared.Waveform.the-variants as w
 use Rattle.commands.specs.Plans.{Plan, ReturnsAndSends, ReturnsThenLow, Sends, SendsPacket, SendsLow, SendsLevel, plan, returns, sends, performs, awaits}
-use Rattle.commands.specs.Common.{Entry, _is_, lookup}
 pub use Rattle.commands.specs.declared.SpiCommand.{SpiCommand}
 pub use Rattle.commands.specs.declared.SpiCommand.the-variants as k
 

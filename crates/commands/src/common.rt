@@ -68,7 +68,7 @@ fn choose(s: State, flag: u8, wave: Waveform) -> Decision
     ensures { λ r. ⌜ decided s r ≡ performs (withPage s (chosenPage (s .page) flag)) wave ⌝ }
 {
     let f = s.page.flags / 8 % 4 * 8 + flag;
-    decide(s, Change::Choose(f), wave, Answer::Returns(0x00))
+    decide(s, Change::Choose(f), wave, Answer::Returns(codes::NO_ERROR))
 }
 
 // 07 to 0A: a flag set or cleared, 00 returned.
@@ -76,7 +76,12 @@ fn set_flag(s: State, bit: Bit, on: bool) -> Decision
     ensures { λ r. ⌜ decided s r ≡ flagged s bit on ⌝ }
 {
     let f = with_bit(bit, on, s.page.flags);
-    decide(s, Change::Flags(f), Waveform::Still, Answer::Returns(0x00))
+    decide(
+        s,
+        Change::Flags(f),
+        Waveform::Still,
+        Answer::Returns(codes::NO_ERROR),
+    )
 }
 
 // 1C: PD4 latched, the IOG cycles waited, PD3 latched.
@@ -93,7 +98,12 @@ fn set_iog(s: State) -> Decision
         wait,
         last,
     };
-    decide(s, Change::Latch(last), wave, Answer::Returns(0x00))
+    decide(
+        s,
+        Change::Latch(last),
+        wave,
+        Answer::Returns(codes::NO_ERROR),
+    )
 }
 
 // What a common command does.
@@ -105,7 +115,7 @@ pub(crate) fn run(s: State, c: CommonCommand) -> Decision
             s,
             Change::Reset,
             Waveform::Reinit,
-            Answer::Returns(0x00),
+            Answer::Returns(codes::NO_ERROR),
         ),
         CommonCommand::ChooseI2c => choose(s, 1, Waveform::ReinitHigh(wire::LINE_CS)),
         CommonCommand::ChooseSpi => choose(s, 2, Waveform::ReinitHigh(wire::LINE_SS)),
@@ -120,7 +130,7 @@ pub(crate) fn run(s: State, c: CommonCommand) -> Decision
             s,
             Change::Save,
             Waveform::Still,
-            Answer::Returns(0x00),
+            Answer::Returns(codes::NO_ERROR),
         ),
         CommonCommand::ReadFromEprom => sending(s, Answer::SendsEprom),
         CommonCommand::SetReports(on) => set_flag(s, Bit::Three, on),
@@ -136,6 +146,6 @@ pub(crate) fn run(s: State, c: CommonCommand) -> Decision
         CommonCommand::SetIog => set_iog(s),
         CommonCommand::DoExtended => awaiting(s, Wait::Extended),
         CommonCommand::ReadSerial => sending(s, Answer::SendsSerial),
-        CommonCommand::NoCommon => returning(s, 0x80),
+        CommonCommand::NoCommon => returning(s, codes::UNKNOWN_COMMAND),
     }
 }

@@ -37,18 +37,18 @@ fn command(s: State, b: u8) -> Decision
         if f % 2 == 1 {
             return i2c::run(s, i2c::decode(b));
         }
-        return returning(s, 0x80);
+        return returning(s, codes::UNKNOWN_COMMAND);
     }
     if b < 0x60 {
         if f / 2 % 2 == 1 {
             return spi::run(s, spi::decode(b));
         }
-        return returning(s, 0x80);
+        return returning(s, codes::UNKNOWN_COMMAND);
     }
     if f / 4 % 2 == 1 {
         return one_wire::run(s, one_wire::decode(b));
     }
-    returning(s, 0x80)
+    returning(s, codes::UNKNOWN_COMMAND)
 }
 
 // An operand written to a port register: protected bits keep their old bits.
@@ -75,22 +75,34 @@ fn operand(s: State, o: Operand, x: u8) -> Decision
     match o {
         Operand::ToPort(r) => write_port(s, r, x),
         Operand::ToCycles => decide(s, Change::Cycles(x), Waveform::Still, Answer::Silent),
-        Operand::ToI2c => settling(s, Waveform::WriteI2c(x), Answer::Checked(0x20)),
+        Operand::ToI2c => settling(
+            s,
+            Waveform::WriteI2c(x),
+            Answer::Checked(codes::NO_ACKNOWLEDGE),
+        ),
         Operand::ToConfig => decide(
             s,
             Change::Config(x % 8),
             Waveform::Still,
-            Answer::Returns(0x00),
+            Answer::Returns(codes::NO_ERROR),
         ),
         Operand::ToSize => decide(
             s,
             Change::Size(packet::size_register(x)),
             Waveform::Still,
-            Answer::Returns(0x00),
+            Answer::Returns(codes::NO_ERROR),
         ),
-        Operand::ToWire => settling(s, Waveform::WriteWire(x), Answer::Returns(0x00)),
-        Operand::ToWireBit => settling(s, Waveform::WriteWireBit(x), Answer::Returns(0x00)),
-        Operand::ToWireStrong => settling(s, Waveform::WriteWireStrong(x), Answer::Returns(0x00)),
+        Operand::ToWire => settling(s, Waveform::WriteWire(x), Answer::Returns(codes::NO_ERROR)),
+        Operand::ToWireBit => settling(
+            s,
+            Waveform::WriteWireBit(x),
+            Answer::Returns(codes::NO_ERROR),
+        ),
+        Operand::ToWireStrong => settling(
+            s,
+            Waveform::WriteWireStrong(x),
+            Answer::Returns(codes::NO_ERROR),
+        ),
     }
 }
 
@@ -105,7 +117,7 @@ fn timing_byte(s: State, left: u8, x: u8) -> Decision
             s,
             Change::LoadTimings { at, byte: x },
             Waveform::Still,
-            Answer::Returns(0x00),
+            Answer::Returns(codes::NO_ERROR),
         );
     }
     let wait = Wait::Timings { left: left - 1 };

@@ -64,7 +64,7 @@ fn pulse(s: State, latch: PortRegister, bit: Bit, level: bool, unit: u8, wait: u
         wait,
         last,
     };
-    storing(s, latch, last, wave, Answer::Returns(0x00))
+    storing(s, latch, last, wave, Answer::Returns(codes::NO_ERROR))
 }
 
 // 0A to 0D: a bit of a port register set or cleared, with one action.
@@ -76,7 +76,7 @@ fn set_bit(s: State, r: PortRegister, bit: Bit, on: bool) -> Decision
     let verb = port_verb(r);
     let line = port_line(r);
     let wave = Waveform::Port { verb, line, value };
-    storing(s, r, value, wave, Answer::Returns(0x00))
+    storing(s, r, value, wave, Answer::Returns(codes::NO_ERROR))
 }
 
 // 0F: the IOG count sent, and nothing waited for.
@@ -96,6 +96,6 @@ pub(crate) fn run(s: State, c: ExtendedCommand) -> Decision
         ExtendedCommand::SetBit(r, bit, on) => set_bit(s, r, bit, on),
         ExtendedCommand::LoadCycles => awaiting(s, Wait::One(Operand::ToCycles)),
         ExtendedCommand::ReadCycles => read_cycles(s),
-        ExtendedCommand::NoExtended => returning(s, 0x80),
+        ExtendedCommand::NoExtended => returning(s, codes::UNKNOWN_COMMAND),
     }
 }

@@ -48,6 +48,6 @@ pub(crate) fn run(s: State, c: I2cCommand) -> Decision
             },
         ),
         I2cCommand::ReadCs => make(s, Waveform::SampleLine(wire::LINE_CS), Answer::SendsLevel),
-        I2cCommand::NoI2c => returning(s, 0x80),
+        I2cCommand::NoI2c => returning(s, codes::UNKNOWN_COMMAND),
     }
 }

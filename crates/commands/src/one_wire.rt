@@ -46,7 +46,7 @@ pub(crate) fn run(s: State, c: WireCommand) -> Decision
     ensures { λ r. ⌜ decided s r ≡ runWire s c ⌝ }
 {
     match c {
-        WireCommand::SendReset => make(s, Waveform::ResetWire, Answer::Checked(0x60)),
+        WireCommand::SendReset => make(s, Waveform::ResetWire, Answer::Checked(codes::NO_PRESENCE)),
         WireCommand::SendWire => awaiting(s, Wait::One(Operand::ToWire)),
         WireCommand::SendWireBit => awaiting(s, Wait::One(Operand::ToWireBit)),
         WireCommand::SendWireStrong => awaiting(s, Wait::One(Operand::ToWireStrong)),
@@ -67,6 +67,6 @@ pub(crate) fn run(s: State, c: WireCommand) -> Decision
             },
         ),
         WireCommand::PulsePb7 { unit, wait } => performing(s, Waveform::Pb7Pulse { unit, wait }),
-        WireCommand::NoWire => returning(s, 0x80),
+        WireCommand::NoWire => returning(s, codes::UNKNOWN_COMMAND),
     }
 }

@@ -23,7 +23,7 @@ pub(crate) fn packet_byte(s: State, left: u8, exchange: bool, x: u8) -> Decision
         if exchange {
             return decide(s, change, Waveform::Exchange, Answer::ReturnsTwice);
         }
-        return decide(s, change, Waveform::Still, Answer::Returns(0x00));
+        return decide(s, change, Waveform::Still, Answer::Returns(codes::NO_ERROR));
     }
     let wait = Wait::Packet {
         left: left - 1,

@@ -47,7 +47,7 @@ pub(crate) fn sending(s: State, answer: Answer) -> Decision
 pub(crate) fn performing(s: State, wave: Waveform) -> Decision
     ensures { λ r. ⌜ decided s r ≡ performs s wave ⌝ }
 {
-    decide(s, Change::Nothing, wave, Answer::Returns(0x00))
+    decide(s, Change::Nothing, wave, Answer::Returns(codes::NO_ERROR))
 }
 
 // 00 returned, and then waited for, with nothing held yet.
@@ -58,7 +58,7 @@ pub(crate) fn awaiting(s: State, wait: Wait) -> Decision
         s,
         Change::Await(wait),
         Waveform::Still,
-        Answer::Returns(0x00),
+        Answer::Returns(codes::NO_ERROR),
     )
 }
 

@@ -49,7 +49,7 @@ fn read_config(s: State) -> Decision
     if s.page.configured {
         return sending(s, Answer::Sends(config));
     }
-    sending(s, Answer::ReturnsAndSends(0x40))
+    sending(s, Answer::ReturnsAndSends(codes::NO_CONFIGURATION))
 }
 
 // 44, 4C: so many packet bytes waited for; unconfigured, 40.
@@ -60,7 +60,7 @@ fn load_packet(s: State, exchange: bool) -> Decision
     if s.page.configured {
         return awaiting(s, Wait::Packet { left, exchange });
     }
-    returning(s, 0x40)
+    returning(s, codes::NO_CONFIGURATION)
 }
 
 // 46, 4B: an exchange with its answer; unconfigured, 40.
@@ -70,7 +70,7 @@ fn exchange(s: State, answer: Answer) -> Decision
     if s.page.configured {
         return make(s, Waveform::Exchange, answer);
     }
-    returning(s, 0x40)
+    returning(s, codes::NO_CONFIGURATION)
 }
 
 // What an SPI command does. The caller shows that the size register is in range.
@@ -88,7 +88,7 @@ pub(crate) fn run(s: State, c: SpiCommand) -> Decision
         }
         SpiCommand::LoadPacket(exchange) => load_packet(s, exchange),
         SpiCommand::ReadPacket => sending(s, Answer::SendsPacket),
-        SpiCommand::StartExchange => exchange(s, Answer::Returns(0x00)),
+        SpiCommand::StartExchange => exchange(s, Answer::Returns(codes::NO_ERROR)),
         SpiCommand::DriveSs(verb) => performing(
             s,
             Waveform::Line {
@@ -99,6 +99,6 @@ pub(crate) fn run(s: State, c: SpiCommand) -> Decision
         SpiCommand::ReadSs => make(s, Waveform::SampleLine(wire::LINE_SS), Answer::SendsLevel),
         SpiCommand::ReadLow => sending(s, Answer::SendsLow),
         SpiCommand::ExchangeAndRead => exchange(s, Answer::ReturnsThenLow),
-        SpiCommand::NoSpi => returning(s, 0x80),
+        SpiCommand::NoSpi => returning(s, codes::UNKNOWN_COMMAND),
     }
 }

@@ -46,8 +46,8 @@ fn start() -> Bridge {
 
 fn fault(code: u8) -> Fault {
     match code {
-        0x81 => Fault::Frame,
-        0x82 => Fault::Overrun,
+        codes::FRAME => Fault::Frame,
+        codes::OVERRUN => Fault::Overrun,
         _ => Fault::Parity,
     }
 }
@@ -62,7 +62,7 @@ fn event(kind: u8, value: u8) -> Event {
 fn outcome(o: Outcome) -> u8 {
     match o {
         Outcome::Taken => 0,
-        Outcome::Refused(r) => bridge::number(r),
+        Outcome::Refused(r) => refusals::number(r),
     }
 }
 

@@ -39,11 +39,11 @@ fn store(mut s: State, code: u8) -> Settled
 fn store_twice(mut s: State) -> Settled
     ensures { λ r. ⌜ settlement (r .state) (replyBytes (r .state) (r .reply)) ≡ settlementOf s (returned 0 ∷ returned 0 ∷ []) ⌝ }
 {
-    s.page.error = 0x00;
+    s.page.error = codes::NO_ERROR;
     if s.page.flags / 8 % 2 == 1 {
         return Settled {
             state: s,
-            reply: Reply::Two(0x00, 0x00),
+            reply: Reply::Two(codes::NO_ERROR, codes::NO_ERROR),
         };
     }
     Settled {
@@ -67,11 +67,11 @@ fn store_and_send(mut s: State, code: u8) -> Settled
 fn store_then_low(mut s: State, x: u8) -> Settled
     ensures { λ r. ⌜ settlement (r .state) (replyBytes (r .state) (r .reply)) ≡ settlementOf s (saidOf s x Answer.ReturnsThenLow) ⌝ }
 {
-    s.page.error = 0x00;
+    s.page.error = codes::NO_ERROR;
     if s.page.flags / 8 % 2 == 1 {
         return Settled {
             state: s,
-            reply: Reply::OneThenLow(0x00),
+            reply: Reply::OneThenLow(codes::NO_ERROR),
         };
     }
     Settled {
@@ -87,7 +87,7 @@ fn check(s: State, x: u8, code: u8) -> Settled
     if x != 0 {
         return store(s, code);
     }
-    store(s, 0x00)
+    store(s, codes::NO_ERROR)
 }
 
 // 0F for a low sample, 8F for a high one.

@@ -5,13 +5,13 @@ use mathlib.Core.Bool.{Bool, true, false, cond, not, false≢true}
 use mathlib.Core.List.{List}
 use native.Mathlib.Omega.{arith}
 use lib.Dec.{eqb}
-use Rattle.bridge.specs.Calls.{numberOf}
-use Rattle.bridge.specs.declared.Refusal.the-variants.{Ranges}
 use Rattle.session.specs.declared.replay.Cursor.{Cursor}
 use Rattle.session.specs.declared.replay.Ran.{Ran}
 use Rattle.session.specs.Runs.{Runs}
 use Rattle.image.specs.Image.{stateIn, isState}
 use Rattle.image.specs.Parts.{Stored}
+use Rattle.refusals.specs.Refusals.{numberOf}
+use Rattle.refusals.specs.declared.Refusal.the-variants.{Ranges}
 use Rattle.export.specs.Replaying.{Behind, behind, cursorIn, Replays}
 use Rattle.image.proofs.Images.{image-of-state}
 

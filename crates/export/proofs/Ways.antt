@@ -7,11 +7,9 @@ use borrow.Author.Tests.{eq-eqb, ne-eqb}
 use lib.ListN.{length}
 use Rattle.registers.specs.declared.State.{State}
 use Rattle.registers.specs.declared.Event.{Event}
-use Rattle.bridge.specs.Calls.{Lent, numberOf, given, answerOf}
+use Rattle.bridge.specs.Calls.{Lent, given, answerOf}
 use Rattle.bridge.specs.declared.Bridge.{Bridge}
 use Rattle.bridge.specs.declared.Stepped.{Stepped}
-use Rattle.bridge.specs.declared.Refusal.the-variants.{Ranges}
-use Rattle.bridge.specs.declared.Refusal.{Refusal}
 use Rattle.bridge.specs.Judging.{judgementOf}
 use Rattle.bridge.specs.declared.Judgement.{Judgement}
 use Rattle.bridge.specs.declared.Judgement.the-variants as j
@@ -20,8 +18,10 @@ use Rattle.switch_on.specs.Start.{starting}
 use Rattle.switch_on.specs.SwitchOn.{switched, switchOf}
 use Rattle.switch_on.specs.declared.Device.{Device}
 use Rattle.switch_on.specs.declared.SwitchedOn.{SwitchedOn}
-use Rattle.records.specs.declared.Refusal as why
 use Rattle.image.specs.Image.{imageSize, imageOf, stateIn, isState}
+use Rattle.refusals.specs.Refusals.{numberOf}
+use Rattle.refusals.specs.declared.Refusal.{Refusal}
+use Rattle.refusals.specs.declared.Refusal.the-variants.{Ranges}
 use Rattle.export.specs.Calls.{Asked, startCall, startGives, stepCall, eventAsked, outcomeNumber, imageAfter, stepAnswered, withoutEvent, stepGives, judgeCall, verdictNumber, placeOf, judgeAnswered, judgeGives, switchCall, switchNumber, switchAnswered, switchGives}
 use Rattle.export.specs.declared.arguments.Asked.the-variants as a
 
@@ -40,7 +40,7 @@ module _ (image : List ℕ) where
     step-no-state h e = rw (h, e)
 
     module _ (h : isState image ≡ true) {x : Asked} (ex : x ≡ eventAsked kind value) where
-      pub step-no-event : {w : why.Refusal} → x ≡ a.Refused w → {s : State} → s ≡ stateIn image
+      pub step-no-event : {w : Refusal} → x ≡ a.Refused w → {s : State} → s ≡ stateIn image
           → {n : ℕ} → n ≡ withoutEvent s w (length (l .samples)) (l .sampled) (length (l .actions)) (l .acted) (length (l .replies)) (l .replied)
           → stepCall n image (l .actions) (l .replies) 0 0 0 ≡ stepGives image kind value l
       unfolding stepGives

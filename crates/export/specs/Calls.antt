@@ -9,14 +9,13 @@ use Rattle.registers.specs.Ranges.{stateFits}
 use Rattle.registers.specs.declared.State.{State}
 use Rattle.registers.specs.declared.Event.the-variants as e
 use Rattle.registers.specs.declared.Fault.the-variants as k
-use Rattle.commands.specs.Common.{Entry, _is_, lookup}
+use Rattle.codes.specs.Tables.{Entry, _is_, lookup}
 use Rattle.grammar.specs.declared.Verdict.{Verdict}
 use Rattle.grammar.specs.declared.Verdict.the-variants as v
-use Rattle.bridge.specs.Calls.{Lent, Given, numberOf, answerOf}
+use Rattle.bridge.specs.Calls.{Lent, Given, answerOf}
 use Rattle.bridge.specs.declared.Bridge.{Bridge}
 use Rattle.bridge.specs.declared.Outcome.{Outcome}
 use Rattle.bridge.specs.declared.Outcome.the-variants as o
-use Rattle.bridge.specs.declared.Refusal.the-variants.{Ranges, Samples, Actions, Replies}
 use Rattle.bridge.specs.Judging.{judgementOf}
 use Rattle.bridge.specs.declared.Judgement.{Judgement}
 use Rattle.bridge.specs.declared.Judgement.the-variants as j
@@ -27,9 +26,10 @@ use Rattle.switch_on.specs.declared.Device.{Device}
 use Rattle.switch_on.specs.declared.Outcome as switch
 use Rattle.switch_on.specs.declared.Outcome.the-variants as s
 use Rattle.records.specs.Records as r
-use Rattle.records.specs.declared.Refusal as why
-use Rattle.records.specs.declared.Refusal.the-variants.{Kind, FaultBody}
 use Rattle.image.specs.Image.{imageSize, imageOf, stateIn, isState}
+use Rattle.refusals.specs.Refusals.{numberOf}
+use Rattle.refusals.specs.declared.Refusal.{Refusal}
+use Rattle.refusals.specs.declared.Refusal.the-variants.{Ranges, Samples, Actions, Replies, Kind, FaultBody}
 pub use Rattle.export.specs.declared.arguments.Asked.{Asked}
 pub use Rattle.export.specs.declared.arguments.Asked.the-variants as a
 
@@ -90,10 +90,10 @@ stepAnswered image g =
     stepCall (outcomeNumber (g .answer .outcome)) (imageAfter (g .answer .outcome) (g .answer .bridge .state) image) (g .actions) (g .replies) (g .answer .samples) (g .answer .replies) (g .answer .actions)
 
 -- a call without an event: "the lowest number that applies", so the state and the marks are looked at before 8 and 9
-abbrev pub withoutEvent : State → why.Refusal → ℕ → ℕ → ℕ → ℕ → ℕ → ℕ → ℕ
+abbrev pub withoutEvent : State → Refusal → ℕ → ℕ → ℕ → ℕ → ℕ → ℕ → ℕ
 withoutEvent s reason samples sampled actions acted replies replied =
     cond (stateFits s)
-    (cond (fitsIn samples sampled 0) (cond (fitsIn actions acted 0) (cond (fitsIn replies replied 0) (r.numberOf reason) (numberOf Replies)) (numberOf Actions)) (numberOf Samples))
+    (cond (fitsIn samples sampled 0) (cond (fitsIn actions acted 0) (cond (fitsIn replies replied 0) (numberOf reason) (numberOf Replies)) (numberOf Actions)) (numberOf Samples))
     (numberOf Ranges)
 
 abbrev pub stepAsked : List ℕ → Lent → Asked → StepCall
@@ -144,7 +144,7 @@ deviceOf cycles version serial = record { cycles = cycles; version = version; se
 
 abbrev pub switchNumber : switch.Outcome → ℕ
 switchNumber s.On = 0
-switchNumber (s.Refused why) = on.numberOf why
+switchNumber (s.Refused why) = numberOf why
 
 abbrev pub switchAnswered : Switched → SwitchCall
 switchAnswered x = switchCall (switchNumber (x .answer .outcome)) (imageOf (x .answer .bridge .state)) (x .buffer) (x .answer .actions)

@@ -5,11 +5,11 @@ use mathlib.Core.Path.{_≡_}
 use mathlib.Core.Bool.{true, false, not}
 use mathlib.Core.List.{List}
 use lib.Dec.{eqb}
-use Rattle.bridge.specs.Calls.{numberOf}
-use Rattle.bridge.specs.declared.Refusal.the-variants.{Ranges}
 use Rattle.session.specs.declared.replay.Cursor.{Cursor}
 use Rattle.session.specs.Runs.{Runs}
 use Rattle.image.specs.Image.{isState}
+use Rattle.refusals.specs.Refusals.{numberOf}
+use Rattle.refusals.specs.declared.Refusal.the-variants.{Ranges}
 use Rattle.export.specs.Calls.{bridgeIn}
 
 -- the cursor as C holds it: "the state and five numbers"

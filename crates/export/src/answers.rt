@@ -24,7 +24,7 @@ pub(crate) fn finish(image: &mut [u8], x: Stepped) -> u8
             encoding::store(image, s);
             TAKEN
         }
-        Outcome::Refused(why) => bridge::number(why),
+        Outcome::Refused(why) => refusals::number(why),
     }
 }
 
@@ -54,6 +54,6 @@ pub(crate) fn switch_number(o: switch_on::Outcome) -> u8
 {
     match o {
         switch_on::Outcome::On => TAKEN,
-        switch_on::Outcome::Refused(why) => switch_on::number(why),
+        switch_on::Outcome::Refused(why) => refusals::number(why),
     }
 }

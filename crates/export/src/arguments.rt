@@ -6,7 +6,7 @@ ghost use Rattle.export.specs.Calls.{faultAsked, eventAsked, withoutEven
 ghost use Rattle.export.specs.Replaying.{behind, cursorIn};
 use bridge::Bridge;
 use image::decoding;
-use records::Refusal;
+use refusals::Refusal;
 use registers::Event;
 use registers::Fault;
 use registers::State;
@@ -29,9 +29,9 @@ fn fault(value: u8) -> Asked
     ensures { λ r. ⌜ r ≡ faultAsked value ⌝ }
 {
     match value {
-        0x81 => Asked::Event(Event::Fault(Fault::Frame)),
-        0x82 => Asked::Event(Event::Fault(Fault::Overrun)),
-        0x83 => Asked::Event(Event::Fault(Fault::Parity)),
+        codes::FRAME => Asked::Event(Event::Fault(Fault::Frame)),
+        codes::OVERRUN => Asked::Event(Event::Fault(Fault::Overrun)),
+        codes::PARITY => Asked::Event(Event::Fault(Fault::Parity)),
         _ => Asked::Refused(Refusal::FaultBody),
     }
 }
@@ -63,18 +63,18 @@ pub(crate) fn no_event(
     ensures { λ r. ⌜ r ≡ withoutEvent s why samples sampled actions acted replies replied ⌝ }
 {
     if !registers::in_range(s) {
-        return bridge::number(bridge::Refusal::Ranges);
+        return refusals::number(Refusal::Ranges);
     }
     if !wire::fits(samples, sampled, 0) {
-        return bridge::number(bridge::Refusal::Samples);
+        return refusals::number(Refusal::Samples);
     }
     if !wire::fits(actions, acted, 0) {
-        return bridge::number(bridge::Refusal::Actions);
+        return refusals::number(Refusal::Actions);
     }
     if !wire::fits(replies, replied, 0) {
-        return bridge::number(bridge::Refusal::Replies);
+        return refusals::number(Refusal::Replies);
     }
-    records::number(why)
+    refusals::number(why)
 }
 
 // What the device has besides an image, with its serial number as bytes.

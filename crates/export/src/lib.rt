@@ -11,9 +11,9 @@ use answers::TAKEN;
 use arguments::Asked;
 use bridge::Bridge;
 use bridge::Judgement;
-use bridge::Refusal;
 use image::decoding;
 use image::encoding;
+use refusals::Refusal;
 
 // The state that every session starts with goes to the image.
 #[no_mangle]
@@ -21,7 +21,7 @@ pub extern "C" fn bridge_factory_start(state: &mut [u8]) -> u8
     ensures { λ r. ⌜ startCall r (now (state .exit)) ≡ startGives (now (state .entry)) ⌝ }
 {
     if state.len() != decoding::SIZE {
-        return bridge::number(Refusal::Ranges);
+        return refusals::number(Refusal::Ranges);
     }
     let b = switch_on::factory_start();
     let s = b.state;
@@ -51,7 +51,7 @@ pub extern "C" fn bridge_step(
     *sent = 0;
     *made = 0;
     if !decoding::is_state(state) {
-        return bridge::number(Refusal::Ranges);
+        return refusals::number(Refusal::Ranges);
     }
     let asked = arguments::event_of(kind, value);
     match asked {
@@ -91,13 +91,13 @@ pub extern "C" fn bridge_judge(
     ensures { λ r. ⌜ judgeCall r (now (verdict .exit)) (now (place .exit)) ≡ judgeGives (now (state .entry)) (now (bytes .entry)) (now (verdict .entry)) (now (place .entry)) ⌝ }
 {
     if !decoding::is_state(state) {
-        return bridge::number(Refusal::Ranges);
+        return refusals::number(Refusal::Ranges);
     }
     let s = decoding::state_of(state);
     let b = Bridge { state: s };
     let j = b.judge(bytes);
     match j {
-        Judgement::Refused(why) => bridge::number(why),
+        Judgement::Refused(why) => refusals::number(why),
         Judgement::Judged(v) => {
             *verdict = answers::verdict_number(v);
             *place = answers::place_of(v);
@@ -123,7 +123,7 @@ pub extern "C" fn bridge_switch_on<'a>(
 {
     *made = 0;
     if state.len() != decoding::SIZE {
-        return bridge::number(Refusal::Ranges);
+        return refusals::number(Refusal::Ranges);
     }
     let d = arguments::device(cycles, version, serial);
     let x = switch_on::switch_on(stored, factory, d, actions, acted);
@@ -152,7 +152,7 @@ pub extern "C" fn bridge_replay(
 {
     *written = 0;
     if !decoding::is_state(state) {
-        return bridge::number(Refusal::Ranges);
+        return refusals::number(Refusal::Ranges);
     }
     let c = arguments::cursor_of(state, *at, *end, *sample, *sampled, *done);
     let r = session::replay::run(c, session, output);

@@ -5,7 +5,7 @@ use mathlib.Core.Bool.{Bool, true, false, cond, _||_, true≢false}
 use mathlib.Core.List.{List, [], _∷_}
 use native.Mathlib.Omega.{arith}
 use native.Mathlib.Decide.{decLt}
-use Rattle.wire.specs.Codes.{anyRejecting}
+use Rattle.codes.specs.Codes.{anyRejecting}
 use Rattle.grammar.specs.Grammar.{Context}
 use Rattle.grammar.specs.Scanner.{Scanner, Scanned, Accepted, Rejected, between, scan, Course, through, rejectedAt, later, resume, scanAll}
 use Rattle.grammar.specs.Verdict.{FirstWrong}

@@ -5,7 +5,7 @@ use mathlib.Core.Bool.{Bool, true, false, cond}
 use mathlib.Core.List.{List, [], _∷_, map}
 use mathlib.Core.Logic.{_↔_}
 use lib.ListN.{getD}
-use Rattle.wire.specs.Codes.{anyRejecting}
+use Rattle.codes.specs.Codes.{anyRejecting}
 use Rattle.grammar.specs.Grammar.{Context, Division, Orderly, Continuable}
 use Rattle.grammar.specs.Scanner.{Between, Scanner, Scanned, Accepted, Rejected, scan}
 use Rattle.grammar.specs.Verdict.{FirstWrong}

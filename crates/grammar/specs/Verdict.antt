@@ -6,7 +6,7 @@ use mathlib.Core.List.{List}
 use mathlib.Core.Logic.{_↔_}
 use lib.ListN.{length, take}
 use mathlib.Core.Bool.{true}
-use Rattle.wire.specs.Codes.{rejecting}
+use Rattle.codes.specs.Codes.{rejecting}
 use Rattle.grammar.specs.Grammar.{Context, Orderly, Continuable}
 use Rattle.grammar.specs.Scanner.{Place, Between, Extended, Inside, Scanner, between, Course, through, rejectedAt, scanAll}
 pub use Rattle.grammar.specs.declared.Verdict.{Verdict}

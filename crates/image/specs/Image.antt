@@ -15,7 +15,7 @@ use Rattle.registers.specs.declared.Operand.{Operand}
 use Rattle.registers.specs.declared.Operand.the-variants.{ToPort, ToCycles, ToI2c, ToConfig, ToSize, ToWire, ToWireBit, ToWireStrong}
 use Rattle.registers.specs.declared.Wait.{Wait}
 use Rattle.registers.specs.declared.Wait.the-variants.{Nothing, One, Extended, Packet, Timings}
-use Rattle.commands.specs.Common.{Entry, _is_, lookup}
+use Rattle.codes.specs.Tables.{Entry, _is_, lookup}
 use Rattle.commands.specs.Promises.{Sized}
 
 -- THE SIZES of the state's arrays; the packet register's is `registerBytes`

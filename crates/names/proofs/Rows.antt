@@ -9,12 +9,6 @@ use lib.ListN.{length, getD, drop}
 use lib.Seq.{drop-cons}
 use Rattle.names.specs.Names.{ExtendedRows, firstWhere}
 
--- within a table it does not matter what stands past it
-pub getD-within : {A : Type 0} (l : List A) (n : ℕ) (d e : A) → n < length l → getD l n d ≡ getD l n e
-getD-within [] n d e h = absurd (not-suc-le-zero h)
-getD-within (x ∷ xs) zero d e h = refl
-getD-within (x ∷ xs) (suc n) d e h = getD-within xs n d e (le-of-suc-le-suc h)
-
 pub extended-rows : ExtendedRows
 extended-rows = refl
 

@@ -1,13 +1,13 @@
 -- The commands of the list 001 in 01's order, each with its name and its code. Lay 001 beside it, sections 2.1, 2.1.1 and 2.2.1
 -- to 2.2.3. How many operands a command has is the grammar's to say.
-use Prim.Native.Nat.{ℕ, zero, suc}
-use Prim.Native.Char.{code as charCode}
-use Prim.Native.String.{String, [] as []ᵀ, _∷_ as _∷ᵀ_}
+use Prim.Native.Nat.{ℕ, suc}
+use Prim.Native.String.{String}
 use mathlib.Core.Path.{_≡_}
 use mathlib.Core.Bool.{Bool, cond, _&&_, Bool·beq}
 use mathlib.Core.List.{List, [], _∷_, _++_, map}
 use lib.Dec.{eqb, leb}
-use lib.ListN.{getD, replicate, take, drop}
+use lib.ListN.{getD, take, drop}
+use Rattle.padding.specs.Padding.{bytes, blanks, padded}
 
 pub record Row : Type 0 where
   pub name : String
@@ -117,20 +117,6 @@ oneWire =
 
 abbrev pub rows : List Row
 rows = common ++ extended ++ i2c ++ spi ++ oneWire
-
--- the bytes of a text
-abbrev pub bytes : String → List ℕ
-bytes []ᵀ = []
-bytes (c ∷ᵀ s) = charCode c ∷ bytes s
-
-abbrev pub blanks : ℕ → List ℕ
-blanks n = replicate n 0x20
-
--- padded with blanks to so many bytes
-abbrev pub padded : ℕ → List ℕ → List ℕ
-padded n [] = blanks n
-padded zero (x ∷ xs) = x ∷ xs
-padded (suc n) (x ∷ xs) = x ∷ padded n xs
 
 abbrev pub names : List (List ℕ)
 names = map (λ (r : Row). padded 24 (bytes (r .name))) rows

@@ -1,19 +1,71 @@
-// Refusals in words, as 01's table has them. What is written no contract of a call to the system can say.
+// The refusals of 01 in its order, each with its number and in words.
+ghost use mathlib.Core.Path.{_≡_};
+ghost use Rattle.refusals.specs.Refusals.{numberOf, wordsOf};
 
-fn write(fd: i32, words: &[u8]) {
-    io::write_all(fd, words);
+// Why a call is refused, or a session can't be replayed further; `numberOf` in the definitions gives each its number.
+pub enum Refusal {
+    Ranges,
+    Samples,
+    Actions,
+    Replies,
+    Header,
+    Length,
+    Passes,
+    Kind,
+    FaultBody,
+    Size,
+    Factory,
+    Waits,
 }
 
-// Writes why a session ended with a number, to an open descriptor. Of 01's numbers a session comes to these.
-pub fn write_reason(fd: i32, number: usize) {
-    match number {
-        1 => write(fd, b"the state breaks its ranges"),
-        2 => write(fd, b"fewer samples are left than the event uses"),
-        5 => write(fd, b"1 to 3 bytes left where a record header should be"),
-        6 => write(fd, b"record length over 4,096"),
-        7 => write(fd, b"record body passes the end"),
-        8 => write(fd, b"unknown kind"),
-        9 => write(fd, b"a fault body is not one byte of 81, 82, 83 hex"),
-        _ => write(fd, b"session over 32,768 bytes"),
+// The bytes of a refusal's words, blanks behind them.
+pub const WIDTH: usize = 49;
+
+// How many numbers there are; 0 is none's.
+const NUMBERS: usize = 13;
+
+const WORDS: [[u8; WIDTH]; NUMBERS] = [
+    [b' '; WIDTH],
+    *b"the state breaks its ranges                      ",
+    *b"fewer samples are left than the event uses       ",
+    *b"the actions do not fit                           ",
+    *b"the replies do not fit                           ",
+    *b"1 to 3 bytes left where a record header should be",
+    *b"record length over 4,096                         ",
+    *b"record body passes the end                       ",
+    *b"unknown kind                                     ",
+    *b"a fault body is not one byte of 81, 82, 83 hex   ",
+    *b"session over 32,768 bytes                        ",
+    *b"factory image not good                           ",
+    *b"judge's start waits for something                ",
+];
+
+// A refusal's number in 01.
+pub fn number(r: Refusal) -> u8
+    ensures { λ n. ⌜ n ≡ numberOf r ⌝ }
+{
+    match r {
+        Refusal::Ranges => 1,
+        Refusal::Samples => 2,
+        Refusal::Actions => 3,
+        Refusal::Replies => 4,
+        Refusal::Header => 5,
+        Refusal::Length => 6,
+        Refusal::Passes => 7,
+        Refusal::Kind => 8,
+        Refusal::FaultBody => 9,
+        Refusal::Size => 10,
+        Refusal::Factory => 11,
+        Refusal::Waits => 12,
     }
+}
+
+// The refusal of a number in words; all blanks for a number that is none's.
+pub fn words(number: usize) -> [u8; WIDTH]
+    ensures { λ r. ⌜ r ≡ wordsOf number ⌝ }
+{
+    if NUMBERS <= number {
+        return [b' '; WIDTH];
+    }
+    WORDS[number]
 }

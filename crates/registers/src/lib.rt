@@ -97,9 +97,9 @@ pub fn fault_code(f: Fault) -> u8
     ensures { λ r. ⌜ r ≡ faultCode f ⌝ }
 {
     match f {
-        Fault::Frame => 0x81,
-        Fault::Overrun => 0x82,
-        Fault::Parity => 0x83,
+        Fault::Frame => codes::FRAME,
+        Fault::Overrun => codes::OVERRUN,
+        Fault::Parity => codes::PARITY,
     }
 }
 

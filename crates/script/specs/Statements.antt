@@ -5,7 +5,8 @@ use mathlib.Core.Bool.{cond}
 use mathlib.Core.List.{List, [], _∷_, _++_}
 use lib.Dec.{eqb, ltb}
 use lib.ListN.{length}
-use Rattle.names.specs.Names.{bytes as text, codeAt, isExtended}
+use Rattle.padding.specs.Padding.{bytes as text}
+use Rattle.names.specs.Names.{codeAt, isExtended}
 use Rattle.registers.specs.Registers.{faultCode}
 use Rattle.registers.specs.declared.Fault.the-variants.{Frame, Overrun, Parity}
 use Rattle.grammar.specs.declared.Context.{Context}

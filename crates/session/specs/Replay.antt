@@ -13,12 +13,13 @@ use Rattle.commands.specs.Plans.{Effect, sentBy}
 use Rattle.commands.specs.Events.{effectOf}
 use Rattle.bridge.specs.Judging.{isIdle}
 use Rattle.switch_on.specs.Start.{starting}
-use Rattle.records.specs.declared.Refusal.{Refusal}
-use Rattle.records.specs.declared.Refusal.the-variants.{Ranges, Samples, Size}
-use Rattle.records.specs.Records.{numberOf, part, word16, word32, recordOf}
+use Rattle.records.specs.Records.{part, word16, word32, recordOf}
 use Rattle.records.specs.declared.found.Found.{Found}
 use Rattle.records.specs.Found.{foundAt}
 use Rattle.records.specs.declared.found.Found.the-variants as f
+use Rattle.refusals.specs.Refusals.{numberOf}
+use Rattle.refusals.specs.declared.Refusal.{Refusal}
+use Rattle.refusals.specs.declared.Refusal.the-variants.{Ranges, Samples, Size}
 pub use Rattle.session.specs.declared.replay.Cursor.{Cursor}
 
 -- THE OUTPUT

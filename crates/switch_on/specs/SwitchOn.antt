@@ -14,18 +14,13 @@ use Rattle.registers.specs.declared.State.{State}
 use Rattle.registers.specs.declared.Wait.the-variants as v
 use Rattle.lines.specs.Lines.{high, portActions}
 use Rattle.one_wire_bus.specs.OneWire.{defaultTimings}
+use Rattle.refusals.specs.declared.Refusal.{Refusal}
+use Rattle.refusals.specs.declared.Refusal.the-variants.{Actions, Factory}
 use Rattle.switch_on.specs.Images.{isGood, usedOf}
 pub use Rattle.switch_on.specs.declared.Device.{Device}
-pub use Rattle.switch_on.specs.declared.Refusal.{Refusal}
-pub use Rattle.switch_on.specs.declared.Refusal.the-variants.{Actions, Factory}
 pub use Rattle.switch_on.specs.declared.Outcome.{Outcome}
 pub use Rattle.switch_on.specs.declared.Outcome.the-variants.{On, Refused}
 pub use Rattle.switch_on.specs.declared.SwitchedOn.{SwitchedOn}
-
--- a refusal's number in the table
-abbrev pub numberOf : Refusal → ℕ
-numberOf Actions = 3
-numberOf Factory = 11
 
 -- the registers of an image: without SPI "configuration 0, N 1, unconfigured"; "ERROR and the packet register start at 0, timings
 -- at their defaults"
@@ -94,16 +89,20 @@ abbrev pub actionsFit : List ℕ → List ℕ → ℕ → ℕ → Bool
 actionsFit stored factory size mark = fitsIn size mark (length (bytesOf (onActions (onPage stored factory))))
 
 -- "11 before 3"
+abbrev pub reasonFor : List ℕ → Refusal
+reasonFor factory = cond (isGood factory) Actions Factory
+
+-- "The settings used are a part of one of two lent images"; refused, "the empty front part of the factory image"
+abbrev pub isOn : List ℕ → List ℕ → ℕ → ℕ → Bool
+isOn stored factory size mark = isGood factory && actionsFit stored factory size mark
+
+unfoldable pub settingsOf : List ℕ → List ℕ → ℕ → ℕ → List ℕ
+settingsOf stored factory size mark = cond (isOn stored factory size mark) (usedOf stored factory) []
+
 unfoldable pub switchOf : List ℕ → List ℕ → Device → List ℕ → ℕ → Switched
 switchOf stored factory d buffer mark =
-    cond (isGood factory)
-    (cond (actionsFit stored factory (length buffer) mark)
+    cond (isOn stored factory (length buffer) mark)
     (switched
     (record { bridge = record { state = onState stored factory d }; outcome = On; actions = length (onActions (onPage stored factory)) })
     (overwrite buffer mark (bytesOf (onActions (onPage stored factory)))))
-    (switched (refusal Actions) buffer))
-    (switched (refusal Factory) buffer)
-
--- "The settings used are a part of one of two lent images"; refused, "the empty front part of the factory image"
-unfoldable pub settingsOf : List ℕ → List ℕ → ℕ → ℕ → List ℕ
-settingsOf stored factory size mark = cond (isGood factory && actionsFit stored factory size mark) (usedOf stored factory) []
+    (switched (refusal (reasonFor factory)) buffer)

@@ -3,12 +3,13 @@ ghost use mathlib.Core.Path.{_≡_};
 ghost use mathlib.Core.List.{[]};
 ghost use Rattle.packet.specs.Register.{zeros};
 ghost use Rattle.switch_on.specs.Start.{starting};
-ghost use Rattle.switch_on.specs.SwitchOn.{numberOf, stateOf, zeroState, switched, refusal, switchOf, settingsOf};
+ghost use Rattle.switch_on.specs.SwitchOn.{stateOf, zeroState, switched, refusal, reasonFor, switchOf, settingsOf};
 
 mod actions;
 mod images;
 
 use bridge::Bridge;
+use refusals::Refusal;
 use registers::Page;
 use registers::Shared;
 use registers::State;
@@ -24,12 +25,6 @@ pub struct Device {
 // The most actions of switch-on: six for the ports, and one for CS or SS.
 const MOST_ACTIONS: usize = 7;
 
-// Why switch-on is refused; `numberOf` in the definitions gives each its number.
-pub enum Refusal {
-    Actions,
-    Factory,
-}
-
 // Whether the bridge is on.
 pub enum Outcome {
     On,
@@ -41,16 +36,6 @@ pub struct SwitchedOn {
     pub bridge: Bridge,
     pub outcome: Outcome,
     pub actions: usize,
-}
-
-// A refusal's number in 01.
-pub fn number(r: Refusal) -> u8
-    ensures { λ n. ⌜ n ≡ numberOf r ⌝ }
-{
-    match r {
-        Refusal::Actions => 3,
-        Refusal::Factory => 11,
-    }
 }
 
 // The state where all is zero.
@@ -131,7 +116,17 @@ pub fn settings<'a>(stored: &'a [u8], factory: &'a [u8], room: usize, mark: usiz
     used
 }
 
-// Switches the bridge on: its actions go to a lent buffer from a mark on.
+// Why there are no settings: the factory image is not good, or else the actions do not fit.
+fn reason(factory: &[u8]) -> Refusal
+    ensures { λ r. ⌜ r ≡ reasonFor (now (factory .entry)) ⌝ }
+{
+    if images::is_good(factory) {
+        return Refusal::Actions;
+    }
+    Refusal::Factory
+}
+
+// Switches the bridge on, by the settings used: its actions go to a lent buffer from a mark on.
 pub fn switch_on<'a>(
     stored: &'a [u8],
     factory: &'a [u8],
@@ -141,18 +136,14 @@ pub fn switch_on<'a>(
 ) -> SwitchedOn
     ensures { λ r. ⌜ switched r (now (buffer .exit)) ≡ switchOf (now (stored .entry)) (now (factory .entry)) device (now (buffer .entry)) mark ⌝ }
 {
-    if !images::is_good(factory) {
-        return refused(Refusal::Factory);
+    let used = settings(stored, factory, buffer.len(), mark);
+    if used.len() == 0 {
+        return refused(reason(factory));
     }
-    let used = images::used(stored, factory);
     let page = images::page(used);
-    let n = actions::size(page);
-    if !wire::fits(buffer.len(), mark, n) {
-        return refused(Refusal::Actions);
-    }
     let eprom = images::eprom(stored, factory);
     let s = state(page, eprom, device);
-    actions::put(&mut buffer[mark..], page);
+    let n = actions::put(&mut buffer[mark..], page);
     SwitchedOn {
         bridge: Bridge { state: s },
         outcome: Outcome::On,

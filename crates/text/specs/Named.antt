@@ -4,7 +4,8 @@ use mathlib.Core.Bool.{Bool, cond}
 use mathlib.Core.List.{List}
 use lib.Dec.{leb}
 use lib.ListN.{length}
-use Rattle.names.specs.Names.{names, padded, firstWhere}
+use Rattle.padding.specs.Padding.{padded}
+use Rattle.names.specs.Names.{names, firstWhere}
 use Rattle.text.specs.Words.{same}
 
 -- whether a row has the name, and the row of a name, past the list's end if it has none

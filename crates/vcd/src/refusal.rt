@@ -9,7 +9,8 @@ fn write_refusal(fd: i32, number: u8, place: u64) {
     io::write_all(fd, b" at byte ");
     io::print_decimal(fd, place);
     io::write_all(fd, b": ");
-    refusals::write_reason(fd, number as usize);
+    let why = refusals::words(number as usize);
+    io::write_all(fd, padding::trimmed(&why));
 }
 
 // Says how a session ended, by the body of the record that says so, as a comment of the dump and on standard error.

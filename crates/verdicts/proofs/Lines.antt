@@ -10,7 +10,7 @@ use lib.Dec.{leb}
 use lib.ListN.{length, length-append}
 use lib.Seq.{length-take-le}
 use Rattle.io.specs.Digits.{digits, Fewest}
-use Rattle.names.specs.Names.{bytes}
+use Rattle.padding.specs.Padding.{bytes}
 use Rattle.wire.specs.Buffer.{Written}
 use Rattle.wire.proofs.Buffers.{overwrite-length, written-append}
 use Rattle.grammar.specs.declared.Verdict.{Verdict}

@@ -1,21 +1,16 @@
 // The commands by name: which one a byte is, and the one whose operand is waited for.
 use crate::text::say;
 use crate::text::say_count;
+use crate::text::say_words;
 use names::ROWS;
 use registers::Event;
 use registers::Operand;
 use registers::PortRegister;
 use registers::Wait;
 
-// A name without its blanks.
-fn say_padded(name: &[u8]) {
-    let n = bytes::scan::find(name, 0, name.len(), b' ');
-    say(&name[..n]);
-}
-
 fn say_name(row: usize) {
     let name = names::name(row);
-    say_padded(&name);
+    say_words(&name);
 }
 
 fn setup_code(r: PortRegister) -> u8 {

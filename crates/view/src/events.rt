@@ -1,9 +1,9 @@
 // An event's block: what came, what the bridge did and replied, and what it then waits for.
-use crate::codes::codes_first;
-use crate::codes::say_error;
 use crate::commands::event_row;
 use crate::commands::say_byte;
 use crate::commands::say_wait;
+use crate::replies::codes_first;
+use crate::replies::say_error;
 use crate::text::bold;
 use crate::text::no_color;
 use crate::text::say;

@@ -1,11 +1,11 @@
 // Shows the session of standard input, or of a named file, in words: a block for each event, and a summary.
 mod actions;
-mod codes;
 mod commands;
 mod events;
 mod numbers;
 mod output;
 mod refused;
+mod replies;
 mod text;
 mod walk;
 

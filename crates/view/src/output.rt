@@ -1,8 +1,8 @@
 // What a step of the replay wrote: at most a record of actions and one of replies, or a refusal.
 use crate::actions::say_actions;
-use crate::codes::say_replies;
 use crate::refused::Refused;
 use crate::refused::read_refusal;
+use crate::replies::say_replies;
 use records::reading::Record;
 use records::reading::record_at;
 

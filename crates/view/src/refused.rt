@@ -4,6 +4,7 @@ use crate::text::no_color;
 use crate::text::red;
 use crate::text::say;
 use crate::text::say_number;
+use crate::text::say_words;
 use records::reading::HEADER;
 
 // A refusal that the replay wrote; the number 0 says that it wrote none.
@@ -24,7 +25,8 @@ pub(crate) fn say_refusal(color: bool, r: Refused) {
     red(color);
     say_number_and_place(r);
     say(b": ");
-    refusals::write_reason(libc::STDOUT_FILENO, r.number);
+    let why = refusals::words(r.number);
+    say_words(&why);
     no_color(color);
     say(b"\n");
 }

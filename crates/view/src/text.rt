@@ -13,6 +13,11 @@ pub(crate) fn say_hex(byte: u8) {
     io::print_hex(STDOUT_FILENO, byte as u64, 2);
 }
 
+// A text without the blanks behind it.
+pub(crate) fn say_words(text: &[u8]) {
+    say(padding::trimmed(text));
+}
+
 // So many of a thing that is named by its singular.
 pub(crate) fn say_count(n: usize, thing: &[u8]) {
     say_number(n);

@@ -1,4 +1,3 @@
 pub mod Action
 pub mod Buffer
 pub mod Sample
-pub mod Codes

@@ -2,8 +2,9 @@
 use borrow.Author.Needs.{needs}
 use mathlib.Core.Path.{sym}
 use lib.ListN.{List·getD-eq-default}
-use Rattle.names.specs.Names.{nameAt, names, blanks}
-use Rattle.names.proofs.Rows.{getD-within}
+use Rattle.padding.specs.Padding.{blanks}
+use Rattle.padding.proofs.Rows.{getD-within}
+use Rattle.names.specs.Names.{nameAt, names}
 use Rattle.names.proofs.name.Statement.{statement}
 use Rattle.names.proofs.name.Tie as tie
 

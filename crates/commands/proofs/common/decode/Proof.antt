@@ -2,7 +2,7 @@
 use mathlib.Core.Path.{sym, ap}
 use Rattle.commands.specs.Common.{commonTable, commonOf}
 use Rattle.commands.specs.declared.CommonCommand.the-variants as k
-use Rattle.commands.proofs.Lookup.{missed}
+use Rattle.codes.proofs.Lookup.{missed}
 use Rattle.commands.proofs.common.decode.Statement.{statement}
 use Rattle.commands.proofs.common.decode.Tie as tie
 

@@ -2,7 +2,7 @@
 use mathlib.Core.Path.{sym, ap}
 use Rattle.commands.specs.Extended.{extendedTable, extendedOf}
 use Rattle.commands.specs.declared.ExtendedCommand.the-variants as k
-use Rattle.commands.proofs.Lookup.{missed}
+use Rattle.codes.proofs.Lookup.{missed}
 use Rattle.commands.proofs.extended.decode.Statement.{statement}
 use Rattle.commands.proofs.extended.decode.Tie as tie
 

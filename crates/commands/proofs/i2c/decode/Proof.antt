@@ -2,7 +2,7 @@
 use mathlib.Core.Path.{sym, ap}
 use Rattle.commands.specs.I2c.{i2cTable, i2cOf}
 use Rattle.commands.specs.declared.I2cCommand.the-variants as k
-use Rattle.commands.proofs.Lookup.{missed}
+use Rattle.codes.proofs.Lookup.{missed}
 use Rattle.commands.proofs.i2c.decode.Statement.{statement}
 use Rattle.commands.proofs.i2c.decode.Tie as tie
 

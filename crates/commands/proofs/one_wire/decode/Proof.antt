@@ -2,7 +2,7 @@
 use mathlib.Core.Path.{sym, ap}
 use Rattle.commands.specs.OneWire.{wireTable, wireOf}
 use Rattle.commands.specs.declared.WireCommand.the-variants as k
-use Rattle.commands.proofs.Lookup.{missed}
+use Rattle.codes.proofs.Lookup.{missed}
 use Rattle.commands.proofs.one_wire.decode.Statement.{statement}
 use Rattle.commands.proofs.one_wire.decode.Tie as tie
 

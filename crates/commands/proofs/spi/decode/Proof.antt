@@ -2,7 +2,7 @@
 use mathlib.Core.Path.{sym, ap}
 use Rattle.commands.specs.Spi.{spiTable, spiOf}
 use Rattle.commands.specs.declared.SpiCommand.the-variants as k
-use Rattle.commands.proofs.Lookup.{missed}
+use Rattle.codes.proofs.Lookup.{missed}
 use Rattle.commands.proofs.spi.decode.Statement.{statement}
 use Rattle.commands.proofs.spi.decode.Tie as tie
 

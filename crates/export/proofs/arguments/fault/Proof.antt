@@ -1,7 +1,7 @@
 -- Code by code.
 use mathlib.Core.Path.{sym, ap}
-use Rattle.records.specs.declared.Refusal.the-variants.{FaultBody}
-use Rattle.commands.proofs.Lookup.{missed}
+use Rattle.codes.proofs.Lookup.{missed}
+use Rattle.refusals.specs.declared.Refusal.the-variants.{FaultBody}
 use Rattle.export.specs.Calls.{faultTable, faultAsked}
 use Rattle.export.specs.declared.arguments.Asked.the-variants.{Refused}
 use Rattle.export.proofs.arguments.fault.Statement.{statement}

@@ -2,7 +2,7 @@
 use mathlib.Core.Path.{sym, ap}
 use Prim.Native.Nat.{ℕ}
 use Rattle.registers.specs.declared.Wait.the-variants.{Nothing}
-use Rattle.commands.proofs.Lookup.{missed}
+use Rattle.codes.proofs.Lookup.{missed}
 use Rattle.image.specs.Image.{waitTable, waitOf}
 use Rattle.image.proofs.decoding.wait_of.Statement.{statement}
 use Rattle.image.proofs.decoding.wait_of.Tie as tie

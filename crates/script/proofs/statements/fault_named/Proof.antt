@@ -1,7 +1,7 @@
 -- By the first name that is the word.
 use borrow.Author.Needs.{needs}
 use mathlib.Core.Path.{sym, _∙_}
-use Rattle.names.specs.Names.{bytes as text}
+use Rattle.padding.specs.Padding.{bytes as text}
 use Rattle.text.proofs.Sameness.{same-is}
 use Rattle.script.proofs.statements.fault_named.Statement.{statement}
 use Rattle.script.proofs.statements.fault_named.Tie as tie

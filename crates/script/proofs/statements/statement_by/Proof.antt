@@ -2,7 +2,7 @@
 use borrow.Author.Needs.{needs}
 use borrow.Author.Tests.{eq-eqb, ne-eqb}
 use mathlib.Core.Path.{refl, sym, _∙_}
-use Rattle.names.specs.Names.{bytes as text}
+use Rattle.padding.specs.Padding.{bytes as text}
 use Rattle.text.specs.Words.{textOf}
 use Rattle.text.proofs.Spans.{word-forward, word-within}
 use Rattle.text.proofs.Sameness.{same-is}

@@ -8,7 +8,8 @@ use mathlib.Core.List.{List, [], _∷_, _++_}
 use native.Mathlib.Nat.{not-suc-le-zero, le-of-suc-le-suc}
 use native.Mathlib.Omega.{arith}
 use lib.ListN.{length, getD, take, drop}
-use Rattle.names.specs.Names.{names, nameAt, blanks, padded, firstWhere}
+use Rattle.padding.specs.Padding.{blanks, padded}
+use Rattle.names.specs.Names.{names, nameAt, firstWhere}
 use Rattle.names.proofs.Rows.{found-here, passed-over}
 use Rattle.text.specs.Words.{same}
 use Rattle.text.specs.Named.{hasName, rowNamed}

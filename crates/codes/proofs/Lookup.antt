@@ -3,7 +3,7 @@ use Prim.Native.Nat.{ℕ}
 use mathlib.Core.Path.{_≡_, refl}
 use mathlib.Core.List.{List, [], _∷_}
 use borrow.Author.Tests.{ne-eqb}
-use Rattle.commands.specs.Common.{Entry, lookup}
+use Rattle.codes.specs.Tables.{Entry, lookup}
 
 -- what the last arm of a match over a table's codes knows, after N
 abbrev pub Missed : {A : Type 0} → Type 0 → List (Entry A) → ℕ → Type 0

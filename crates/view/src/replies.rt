@@ -5,23 +5,20 @@ use crate::text::no_color;
 use crate::text::red;
 use crate::text::say;
 use crate::text::say_hex;
+use crate::text::say_words;
 
 // More than any event replies with.
 const ALL: usize = 16;
 
-// A device code in words.
+// A device code in words, if it is one.
 fn say_meaning(code: u8) {
-    match code {
-        0x00 => say(b" (none)"),
-        0x20 => say(b" (no acknowledge)"),
-        0x40 => say(b" (no SPI configuration)"),
-        0x60 => say(b" (no presence)"),
-        0x80 => say(b" (unknown command)"),
-        0x81 => say(b" (frame)"),
-        0x82 => say(b" (overrun)"),
-        0x83 => say(b" (parity)"),
-        _ => {}
+    let meaning = codes::words(code);
+    if meaning[0] == b' ' {
+        return;
     }
+    say(b" (");
+    say_words(&meaning);
+    say(b")");
 }
 
 // Whether a row's command sends data; ERROR, which 04 sends, is a code.

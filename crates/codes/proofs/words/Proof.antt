@@ -1,0 +1,20 @@
+-- At each code the table gives its words, and at no other any.
+use mathlib.Core.Path.{sym, ap}
+use Rattle.codes.specs.Codes.{means, passes, table, wordsIn, wordsOf}
+use Rattle.codes.proofs.Lookup.{missed}
+use Rattle.codes.proofs.words.Statement.{statement}
+use Rattle.codes.proofs.words.Tie as tie
+
+pub words-spec : {M : Type 1} → statement M
+words-spec =
+    tie.close
+    (tie.spec
+    (λ c. sym (ap wordsOf (c .before .before .match .keys1)))
+    (λ c. sym (ap wordsOf (c .before .before .match .keys2)))
+    (λ c. sym (ap wordsOf (c .before .before .match .keys3)))
+    (λ c. sym (ap wordsOf (c .before .before .match .keys4)))
+    (λ c. sym (ap wordsOf (c .before .before .match .keys5)))
+    (λ c. sym (ap wordsOf (c .before .before .match .keys6)))
+    (λ c. sym (ap wordsOf (c .before .before .match .keys7)))
+    (λ c. sym (ap wordsOf (c .before .before .match .keys8)))
+    (λ c. ap wordsIn (missed (means "" passes) (Unit {0}) table (c .before .args .code) (c .match .rest))))
