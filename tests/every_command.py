@@ -1,12 +1,6 @@
-#!/usr/bin/env python3
-"""The stored events and answers of the program `drive`, made with the model.
-
-python3 tests/every_command.py STDIN STDOUT writes both files. Text in quotes in the comments is from 01.
-"""
-import pathlib
+"""The stored events and answers of the program `drive`, made with the model. Text in quotes in the comments is from 01."""
 import random
 import struct
-import sys
 
 from interfaces import TABLES, step
 from model import COMMON, EXTENDED, I2C, ONE_WIRE, SEEN, SPI, WAIT_US, State
@@ -116,7 +110,7 @@ def check_01():             # the "Whole case", and P1 to P7 as far as they show
     waits = [a[2] for a in run(State(), events("03 60:00"))[1][1][3] if a[0] == WAIT_US]
     assert waits == [496, 64, 408], "P7 default reset waits 496, 64, 408 us."
 
-def main(stdin, stdout):
+def files():
     check_01()
     SEEN.clear()
     words = [COMMON_WORDS, "08 07 07 08 08 07 ", COMMON_WORDS, "08 ", I2C_WORDS, " 07 ", I2C_WORDS, " 08 ",
@@ -128,9 +122,4 @@ def main(stdin, stdout):
     wanted = b"".join(struct.pack("<BBBH", outcome, used, len(replies), len(actions)) + bytes(replies)
                       + packed(actions) for outcome, used, replies, actions in answers)
     assert len(given) < 16384 and len(wanted) < 65536
-    pathlib.Path(stdin).write_bytes(given)
-    pathlib.Path(stdout).write_bytes(wanted)
-    print(len(rows), "events,", len(given), "bytes in,", len(wanted), "bytes out")
-
-if __name__ == "__main__":
-    main(*sys.argv[1:])
+    return {"drive/stdin": given, "drive/stdout": wanted}

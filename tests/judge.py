@@ -1,36 +1,74 @@
-#!/usr/bin/env python3
-"""The stored bytes of the program `judge` and its verdict: python3 judge.py BYTES LINE.
+"""The judge, written from 01's section "Grammar" on top of the model's tables, and the stored bytes of the program `judge`.
 
-Every command with its operands, each interface's after the bytes that select it, and then one that is not legal there.
+Text in quotes in the comments is from 01.
 """
-import pathlib
-import sys
+from typing import NamedTuple
 
-from assembler import COMMANDS, Stream
+from interfaces import TABLES
+from model import COMMON, EXTENDED, I2C, ONE_WIRE, SPI
 
-SELECTING = {0: b"", 1: b"\x01", 2: b"\x02\x40\x05\x42\x13", 3: b"\x03"}
-PASSED_OVER = (b"\x00", b"\x01", b"\x02", b"\x03", b"\x1D")     # they change the interface, or open an extended command
+NEED_CONFIGURED = (0x41, 0x44, 0x46, 0x4B, 0x4C)    # "41, 44, 46, 4B, 4C need configured."
+# "returns 00, then one operand", in the order of the sections
+ONE_OPERAND = (0x0B, 0x0D, 0x0F, 0x11, 0x13, 0x15, 0x22, 0x40, 0x42, 0x61, 0x63, 0x67)
 
-def stream():
-    given, led = bytearray(), Stream()
+class Context(NamedTuple):
+    # "The context is the interface, configured or not, and N, at first the start state's."
+    interface: int = 0
+    configured: bool = False
+    bits: int = 1
 
-    def put(data):
-        for byte in data:
-            led.take(byte)
-        given.extend(data)
+    def legal(self, byte):      # "a command legal in its context (common, or of its interface)"
+        named = byte in COMMON or byte in TABLES[self.interface]
+        return named and (self.configured or byte not in NEED_CONFIGURED)
 
+    def operands(self, byte):   # "none, one, nine (65) or ceil(N/8) (44, 4C)"
+        return {0x65: 9, 0x44: -(-self.bits // 8), 0x4C: -(-self.bits // 8)}.get(byte, int(byte in ONE_OPERAND))
+
+    def after(self, byte, last):
+        # "00 clears the context to none, unconfigured, N = 1; 01 to 03 change the interface; 40 configures; 42 sets N.
+        # Nothing else changes it."
+        if byte == 0x00:
+            return Context()
+        if byte in (0x01, 0x02, 0x03):
+            return self._replace(interface={0x01: I2C, 0x02: SPI, 0x03: ONE_WIRE}[byte])
+        if byte == 0x42:        # "register = (operand + 63) mod 64"
+            return self._replace(bits=(last + 63) % 64 + 1)
+        return self._replace(configured=True) if byte == 0x40 else self
+
+def verdict(context, data):
+    """The line that the judge's answer is: "whole", "open" or "wrong at place k"."""
+    at = 0
+    while at < len(data):
+        if not context.legal(data[at]):
+            return f"wrong at {at}"
+        end = at + 1 + context.operands(data[at])
+        if data[at] == 0x1D:    # "for 1D, an extended byte that its rules above define, and that byte's operand if it has one"
+            if data[at + 1:] and data[at + 1] not in EXTENDED:
+                return f"wrong at {at + 1}"
+            end = at + 2 + (data[at + 1:at + 2] == b"\x0E")
+        if end > len(data):
+            return "open"
+        context, at = context.after(data[at], data[end - 1]), end
+    return "whole"
+
+# ---- the stored bytes: every command with its operands, each interface's after the bytes that select it, then one not legal ----
+
+SELECTING = {0: b"", I2C: b"\x01", SPI: b"\x02\x40\x05\x42\x13", ONE_WIRE: b"\x03"}
+PASSED_OVER = (0x00, 0x01, 0x02, 0x03, 0x1D)        # they change the interface, or open an extended command
+
+def every_item():
+    given = b"".join(b"\x1D" + bytes([byte]) + b"\x31" * (byte == 0x0E) for byte in sorted(EXTENDED))
     for interface, selecting in SELECTING.items():
-        put(selecting)
-        for opening in COMMANDS.values():
-            if opening[0] >> 5 == interface and opening not in PASSED_OVER:
-                put(opening)
-                put(range(0x31, 0x31 + led.left))
-    return bytes(given)
+        given += selecting
+        context = Context(interface, interface == SPI, 19)
+        for byte in sorted(TABLES[interface] if interface else COMMON):
+            if byte not in PASSED_OVER:
+                given += bytes([byte, *range(0x31, 0x31 + context.operands(byte))])
+                context = context.after(byte, given[-1])
+    return given
 
-def main(data, line):
-    given = stream()
-    pathlib.Path(data).write_bytes(given + b"\x20\x04")         # I2C's start, where 1-Wire is selected
-    pathlib.Path(line).write_text(f"wrong at {len(given)}\n")
-
-if __name__ == "__main__":
-    main(*sys.argv[1:])
+def files():
+    given = every_item()
+    assert verdict(Context(), given) == "whole"
+    given += b"\x20\x04"        # I2C's start, where 1-Wire is selected
+    return {"judge/stdin": given, "judge/stdout": verdict(Context(), given).encode() + b"\n"}

@@ -168,11 +168,11 @@ def replay(session):
 
 # ---- checks ----
 
-def check_whole_case():
-    assert replay(bytes.fromhex("03 00 01 00 07 01 1A")) == bytes.fromhex(
-        "01 00 01 01 00  1C 00 02 01"
-        "05 10 00 00 06 10 00 00 05 11 00 00 06 11 00 00 05 12 00 00 06 12 00 00 02 02 00 00"
-        "01 00 01 01 00  01 00 01 01 09  01 00 04 01 00"), "Whole case"
+# "Whole case": a session and what it writes
+WHOLE_CASE = bytes.fromhex("03 00 01 00 07 01 1A"), bytes.fromhex(
+    "01 00 01 01 00  1C 00 02 01"
+    "05 10 00 00 06 10 00 00 05 11 00 00 06 11 00 00 05 12 00 00 06 12 00 00 02 02 00 00"
+    "01 00 01 01 00  01 00 01 01 09  01 00 04 01 00")
 
 def check_switch_on():
     given = (0x12, 0x34, (1, 2, 3, 4))
@@ -187,7 +187,7 @@ def check_switch_on():
     assert [switch_on(stored, FACTORY, *given, room)[0] for room in (27, 28)] == [3, 0]
     assert switch_on(stored, FACTORY[:9], *given, 0)[0] == 11
 
-check_whole_case()
+assert replay(WHOLE_CASE[0]) == WHOLE_CASE[1]
 check_switch_on()
 
 if __name__ == "__main__" and len(sys.argv) == 3:

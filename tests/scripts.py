@@ -1,10 +1,11 @@
 #!/usr/bin/env python3
 """Scripts and what they make, by a second assembler that follows the description of the format.
 
-python3 scripts.py DATA LINES writes the stored scripts of the program `scripts`, each as its length (16 bits,
-little-endian) and its text, and the lines that the program must write. python3 scripts.py --program PROGRAM
-[--seed N] puts 500 random scripts to the program `assemble` and compares all that it writes.
+The stored scripts of the program `scripts` are each its length (16 bits, little-endian) and its text, beside the lines that the
+program must write. python3 scripts.py PROGRAM [--seed N] puts 500 random scripts to the program `assemble` and compares all
+that it writes.
 """
+import argparse
 import collections
 import pathlib
 import random
@@ -14,6 +15,8 @@ import sys
 
 from assembler import (BYTE, COMMANDS, COUNT, FAULT_NAME, FAULTS, LINE_END, NO_COMMANDS, ROOM, STATEMENT, Stream, Wrong, assembled,
                        operands_said, statement, takes)
+
+SAMPLE = pathlib.Path(__file__).resolve().parent.parent / "crates/assemble/stdin"     # a script written by hand
 
 def line_of(text):              # what the program `scripts` writes
     session, wrong = assembled(text)
@@ -157,18 +160,18 @@ def stored():
 
 # ---- what the program is given ----
 
-def write(data, lines):
+def files():
     texts = list(stored())
     whole = b"".join(struct.pack("<H", len(text)) + text for text in texts)
     assert len(whole) < 262144, len(whole)
     said = [line_of(text) for text in texts]
     expected = collections.Counter(line.split(b"expected ")[-1].strip().decode() for line in said if not line.startswith(b"good"))
     assert set(expected) == {STATEMENT, BYTE, COUNT, FAULT_NAME, LINE_END, ROOM, *map(operands_said, range(10))}, expected
-    pathlib.Path(data).write_bytes(whole)
-    pathlib.Path(lines).write_bytes(b"".join(said))
-    print(len(texts), "scripts,", len(whole), "bytes,", len(texts) - sum(expected.values()), "good; expected:", dict(expected))
+    session, wrong = assembled(SAMPLE.read_bytes())
+    assert not wrong
+    return {"scripts/data/scripts.bin": whole, "scripts/stdout": b"".join(said), "assemble/stdout": session}
 
-def compare(program, seed=1):
+def compare(program, seed):
     texts = [random_script(1000 * seed + k) for k in range(500)]
     differ = 0
     for text in texts:
@@ -180,12 +183,12 @@ def compare(program, seed=1):
     print(f"{len(texts)} scripts, {differ} differ")
     return differ
 
-def main(arguments):
-    if arguments[:1] == ["--program"] and len(arguments) in (2, 4):
-        sys.exit(compare(arguments[1], int(arguments[3]) if arguments[2:3] == ["--seed"] else 1) > 0)
-    if len(arguments) != 2:
-        sys.exit(__doc__)
-    write(*arguments)
+def main():
+    given = argparse.ArgumentParser(description=__doc__.splitlines()[0])
+    given.add_argument("program")
+    given.add_argument("--seed", type=int, default=1)
+    given = given.parse_args()
+    sys.exit(compare(given.program, given.seed) > 0)
 
 if __name__ == "__main__":
-    main(sys.argv[1:])
+    main()

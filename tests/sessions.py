@@ -1,19 +1,16 @@
-#!/usr/bin/env python3
-"""Stored sessions and their transcripts, made with the model: python3 sessions.py OUT.
+"""The stored sessions of the program `vectors` and their transcripts, made with the model, 01's whole case first.
 
 Each is written as the session's length (16 bits, little-endian), the transcript's length (32 bits,
 little-endian), the session and the transcript. Text in quotes in the comments is from 01.
 """
 import itertools
-import pathlib
 import random
 import struct
-import sys
 
 from every_command import LOOK, noise, spi_round
 from interfaces import TABLES
 from model import COMMON, SEEN
-from replay import BYTES, END, FAULT, FAULTS, LONGEST_BODY, LONGEST_SESSION, REFUSAL, SAMPLES, record, replay
+from replay import BYTES, END, FAULT, FAULTS, LONGEST_BODY, LONGEST_SESSION, REFUSAL, SAMPLES, WHOLE_CASE, record, replay
 
 # ---- sessions in words: "22" a byte, "17:5A" one after a record of samples, ":5A" a record of samples
 # alone, "!81" a record of a fault, "|" the end of a record of bytes ----
@@ -54,6 +51,9 @@ def operands(byte, n=12):       # "none, one, nine (65) or ceil(N/8) (44, 4C)"
     if count is None:           # 1D's one byte is a bad one here; its wait ends at a good one in the look
         count = int(byte in (0x0B, 0x0D, 0x0F, 0x11, 0x13, 0x15, 0x1D, 0x22, 0x40, 0x42, 0x61, 0x63, 0x67))
     return hexes((0xA5 + 0x17 * k) % 256 for k in range(count))
+
+def whole_case():
+    yield WHOLE_CASE[0]
 
 # ---- commands ----
 
@@ -204,9 +204,9 @@ def random_sessions():
 
 # ---- the file ----
 
-PARTS = (every_command, unnamed_bytes, extended_bytes, open_ends, packets, faults, running_out, replacing, refusals,
-         bodies, empty_records, long_sessions, random_sessions)
-SOUND = (every_command, unnamed_bytes, extended_bytes, open_ends, packets, faults)      # none may be refused
+PARTS = (whole_case, every_command, unnamed_bytes, extended_bytes, open_ends, packets, faults, running_out, replacing,
+         refusals, bodies, empty_records, long_sessions, random_sessions)
+SOUND = (whole_case, every_command, unnamed_bytes, extended_bytes, open_ends, packets, faults)      # none may be refused
 
 def ending(transcript):         # the kind of the last record, and the number in it if it is a refusal
     place = kind = 0
@@ -215,7 +215,7 @@ def ending(transcript):         # the kind of the last record, and the number in
         place += 4 + length
     return kind, (struct.unpack_from("<H", transcript, place - 6)[0] if kind == REFUSAL else 0)
 
-def main(name):
+def files():
     SEEN.clear()
     out, endings = [], {}
     for part in PARTS:
@@ -229,8 +229,4 @@ def main(name):
     assert set(endings) == {0, 2, 5, 6, 7, 8, 9, 10} and len(out) >= 400
     whole = b"".join(out)
     assert len(whole) < 4_000_000, len(whole)
-    pathlib.Path(name).write_bytes(whole)
-    print(len(out), "sessions,", len(whole), "bytes; refusals (0 none):", dict(sorted(endings.items())))
-
-if __name__ == "__main__":
-    main(*sys.argv[1:])
+    return {"vectors/data/sessions.bin": whole, "vectors/stdout": b"%d run, 0 differ\n" % len(out)}

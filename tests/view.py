@@ -1,10 +1,9 @@
 #!/usr/bin/env python3
 """What `view` must write, from the model alone.
 
-python3 tests/view.py target/bin/view tries the arguments and compares the two on the sessions of `vectors` and on random ones; with
-no name it makes the stored session of `view` and `replay`, its text and its transcript anew. Text in quotes in the comments is from 01.
+python3 tests/view.py target/bin/view compares the two on the sessions of `vectors` and on random ones, and without its colours.
+Text in quotes in the comments is from 01.
 """
-import pathlib
 import re
 import subprocess
 import sys
@@ -47,14 +46,12 @@ REASONS = {2: "fewer samples are left than the event uses", 5: "1 to 3 bytes lef
            9: "a fault body is not one byte of 81, 82, 83 hex", 10: "session over 32,768 bytes"}
 UNITS = {WAIT_US: "µs", WAIT_MS: "ms", WAIT_IOG: "IOG cycles"}
 
-NOTED = []
-
 class Noted(Turn):
-    """A turn that notes which of its replies are codes."""
+    """A turn that notes which of its replies are codes; the latest can be looked at."""
+    latest = None
     def __init__(self, *given):
         super().__init__(*given)
-        self.codes = set()
-        NOTED.append(self)
+        self.codes, Noted.latest = set(), self
     def returns(self, code):
         before = len(self.replies)
         super().returns(code)
@@ -114,9 +111,8 @@ class Viewed(Run):
         what, row = ({0x81: "fault frame", 0x82: "fault overrun", 0x83: "fault parity"}[byte], None) if kind else self.command(byte)
         self.say(f"{place}: {what}" if kind else f"{place}: {byte:02x} {what}")
         lent, unconfigured = iter(self.samples), not self.state.configured
-        NOTED.clear()
         super().event(kind, byte, place)
-        turn = NOTED[-1]
+        turn = Noted.latest
         if row in (("common", 0x04), (SPI, 0x41)) and (row[1] == 0x04 or unconfigured):     # what these send is a code
             turn.codes.add(0)
         words = [self.action(action, lent) for action in turn.actions]
@@ -148,7 +144,7 @@ def view(session):
               + (f"refusal {number} at {at}" if number else shown.waits()))
     return "\n".join(shown.text) + "\n"
 
-# ---- the stored session: every form of a line, and a record of an unknown kind at the end ----
+# ---- the stored sessions of `view` and `replay`: every form of a line, and a record of an unknown kind at the end ----
 
 FORMS = """
     FF 04 07 0B F0 15 BC 0E :5A 17 1C 1D 04 08 1D 0E 40 1D 0F 23 !81 !82 !83 04
@@ -156,16 +152,16 @@ FORMS = """
     02 41 44 40 05 42 0A 44 34 12 45 :0100010001000100FF01 46 4A 47 :01 49 48 42 04 :0100010001000101 4B 4C 09 43
     03 :01 60 :00 60 61 A5 67 01 63 01 65 86 C4 CC BC BF F9 BC BF C7 66 :0001 64 64 68 69 6A :01 08 60"""
 
-def stored():
-    return session(FORMS) + record(9, b"\x07")
+CHUNK = 16384                   # the bytes of the buffer that the program `replay` fills at a time
 
-def make():
-    folder = pathlib.Path(__file__).parent.parent / "crates" / "view"
-    (folder / "data").mkdir(exist_ok=True)
-    (folder / "data" / "forms.session").write_bytes(stored())
-    (folder / "stdout").write_text(view(stored()), encoding="utf-8")
-    (folder.parent / "replay" / "stdin").write_bytes(stored())
-    (folder.parent / "replay" / "stdout").write_bytes(replay(stored()))
+def stored(times=1):
+    return session(FORMS) * times + record(9, b"\x07")
+
+def files():
+    many = stored(20)
+    assert len(replay(many)) > 2 * CHUNK        # more than two buffers full
+    return {"view/data/forms.session": stored(), "view/stdout": view(stored()).encode(),
+            "replay/stdin": many, "replay/stdout": replay(many)}
 
 # ---- the comparison ----
 
@@ -173,18 +169,12 @@ def run(program, *arguments, given=b""):
     done = subprocess.run([program, *arguments], input=given, stdout=subprocess.PIPE, stderr=subprocess.PIPE, check=True)
     return done.stdout.decode(), done.stderr.decode()
 
-def check_arguments(program):
-    usage = run(program, "--help")[0]
-    assert usage.startswith("usage: view [--color] [FILE]\n")
-    for words, wrong in (("--colour", "--colour"), ("-", "-"), ("a b", "b"), ("--color -x -y", "-x")):
-        assert run(program, *words.split()) == ("", f"{wrong}: unknown argument\n" + usage), words
-    text, error = run(program, "no such file")
-    assert not text and error.startswith("no such file: ")
+def check_colors(program):
     plain, (colored, _) = view(stored()), run(program, "--color", given=stored())
     assert "\x1b" in colored and re.sub("\x1b\\[[0-9]*m", "", colored) == plain
 
 def compare(program):
-    check_arguments(program)
+    check_colors(program)
     sessions = [given for part in PARTS for given in part()] + [random_session(seed) for seed in range(20000, 20500)]
     differ = 0
     for given in sessions:
@@ -197,4 +187,4 @@ def compare(program):
 interfaces.Turn = Noted         # `step` makes its turns by this name
 
 if __name__ == "__main__":
-    compare(*sys.argv[1:]) if sys.argv[1:] else make()
+    compare(*sys.argv[1:])

@@ -1,7 +1,7 @@
 #!/usr/bin/env python3
 """Makes the session file, the view and the waveform picture of each sample in examples/, with notes that sigrok decodes.
 
-    python3 tests/waves/examples.py [--assemble COMMAND] [--vcd COMMAND]
+    python3 tests/waves/examples.py [--assemble COMMAND] [--vcd COMMAND] [--into FOLDER]
 """
 import pathlib
 import subprocess
@@ -26,21 +26,22 @@ def notes(folder, waveform, name, decoder, row):
 
 def make(name, folder, given):
     strips, rows = EXAMPLES[name]
-    session, shown, decoded = ROOT / f"examples/{name}.session", folder / "shown.vcd", folder / "decoded.vcd"
+    into = pathlib.Path(given.into or ROOT / "examples")
+    session, shown, decoded = into / f"{name}.session", folder / "shown.vcd", folder / "decoded.vcd"
     session.write_bytes(run(given.assemble, ROOT / f"examples/{name}.script"))
-    (ROOT / f"examples/{name}.view").write_bytes(run(str(ROOT / "target/bin/view"), session))
+    (into / f"{name}.view").write_bytes(run(str(ROOT / "target/bin/view"), session))
     shown.write_bytes(run(given.vcd, session))
     decoded.write_bytes(run(given.vcd, "--pull-up", session))
     words = [f"--strips={strips}", *(notes(folder, decoded, *row) for row in rows), shown]
     draw = [sys.executable, ROOT / "tests/waves/picture.py", *words]
-    (ROOT / f"examples/{name}.svg").write_bytes(subprocess.run(draw, stdout=subprocess.PIPE, check=True).stdout)
+    (into / f"{name}.svg").write_bytes(subprocess.run(draw, stdout=subprocess.PIPE, check=True).stdout)
 
 def main():
-    given = programs(__doc__)
+    given = programs(__doc__, ("--into", "a folder for the files, in place of examples/"))
     for name in EXAMPLES:
         with tempfile.TemporaryDirectory() as folder:
             make(name, pathlib.Path(folder), given)
-        print(f"examples/{name}.session, examples/{name}.view, examples/{name}.svg")
+        print(f"{name}.session, {name}.view, {name}.svg")
 
 if __name__ == "__main__":
     main()

@@ -1,4 +1,7 @@
-// The arguments of a program: options, which start with `-`, and at most one name of a file.
+// The arguments of a program: options, which start with `-`, and at most one name of a file. What a word is by its bytes is proved. Which
+// words the arguments are, the contracts of the system's calls don't say, so a function that asks for them has no contract.
+ghost use mathlib.Core.Path.{_≡_};
+ghost use Rattle.input.specs.Arguments.{Among, wordsOf, Tells, isOption, IsKind};
 use libc::STDERR_FILENO;
 use libc::STDOUT_FILENO;
 
@@ -10,7 +13,9 @@ pub(crate) enum Kind {
 }
 
 // Whether a list of words, each one but the last followed by a space, has a word.
-fn has_word(list: &[u8], word: &[u8]) -> bool {
+fn has_word(list: &[u8], word: &[u8]) -> bool
+    ensures { λ r. ⌜ Tells r (Among (now (word .entry)) (wordsOf (now (list .entry)))) ⌝ }
+{
     let mut at: usize = 0;
     while at < list.len() {
         let end = bytes::scan::find(list, at, list.len(), b' ');
@@ -22,14 +27,18 @@ fn has_word(list: &[u8], word: &[u8]) -> bool {
     false
 }
 
-fn is_option(word: &[u8]) -> bool {
+fn is_option(word: &[u8]) -> bool
+    ensures { λ r. ⌜ r ≡ isOption (now (word .entry)) ⌝ }
+{
     if 0 < word.len() {
         return word[0] == b'-';
     }
     false
 }
 
-fn is_kind(word: &[u8], kind: Kind, options: &[u8]) -> bool {
+fn is_kind(word: &[u8], kind: Kind, options: &[u8]) -> bool
+    ensures { λ r. ⌜ Tells r (IsKind kind (now (options .entry)) (now (word .entry))) ⌝ }
+{
     match kind {
         Kind::Name => !is_option(word),
         Kind::Known => has_word(options, word),
@@ -61,7 +70,7 @@ fn is_given(place: usize) -> bool {
     place < os::arg_count()
 }
 
-// Whether the program was started with an option.
+// Whether the program was started with an option. A contract could only speak of the arguments, so there is none.
 pub fn option(name: &[u8]) -> bool {
     is_given(first(1, Kind::Known, name))
 }
@@ -89,7 +98,7 @@ fn first_unknown(options: &[u8]) -> usize {
 }
 
 // Whether the program is to go on: `--help` is answered with the usage, and an argument that is not known is refused. The options
-// beside `--help` are a list of words with a space between.
+// beside `--help` are a list of words with a space between. A contract could only speak of the arguments, so there is none.
 pub fn goes_on(usage: &[u8], options: &[u8]) -> bool {
     if option(b"--help") {
         io::write_all(STDOUT_FILENO, usage);

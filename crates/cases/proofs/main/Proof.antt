@@ -1,0 +1,24 @@
+-- What was read lies within the buffer.
+use borrow.Author.Needs.{needs}
+use Rattle.cases.proofs.main.Statement.{statement}
+use Rattle.cases.proofs.main.Tie as tie
+
+pub main-spec : {M : Type 1} → statement M
+main-spec =
+    tie.close
+    (tie.spec
+    (λ c κs. search needs)
+    (λ c. search needs)
+    (λ c κs. search needs)
+    (λ c. search needs)
+    (λ c κs. search needs)
+    (λ c. search needs)
+    (λ c. search needs)
+    (λ c. search needs)
+    (λ c. search needs)
+    (λ c κs. search needs)
+    (λ c. search needs)
+    (λ c. (rw (c .before .before .n .given .1) at (c .before .before .before .before .before .read .ensures)) .0)
+    (λ c. (rw (c .before .before .before .n .given .1) at (c .before .before .before .before .before .before .read .ensures)) .1)
+    (λ c κs. search needs)
+    (λ c. search needs))

@@ -1,0 +1,29 @@
+-- The judge's verdicts in words: 01's "whole", "open" and "wrong at place k", as lines.
+use Prim.Native.Nat.{ℕ}
+use mathlib.Core.Path.{_≡_}
+use mathlib.Core.List.{List, _++_}
+use Rattle.io.specs.Counts.{Counts}
+use Rattle.io.specs.Digits.{digits, Fewest}
+use Rattle.padding.specs.Padding.{bytes}
+use Rattle.wire.specs.Buffer.{Written}
+use Rattle.grammar.specs.declared.Verdict.{Verdict}
+use Rattle.grammar.specs.declared.Verdict.the-variants as v
+
+-- a verdict's line; a place goes by its decimal digits, with no zeros in front, of which there are so many
+abbrev pub lineOf : Verdict → ℕ → List ℕ
+lineOf v.Whole n = bytes "whole\n"
+lineOf v.Open n = bytes "open\n"
+lineOf (v.Wrong k) n = bytes "wrong at " ++ digits 10 n k ++ bytes "\n"
+
+-- so many digits are a verdict's
+abbrev pub HasDigits : Verdict → ℕ → Type 0
+HasDigits v.Whole n = n ≡ 0
+HasDigits v.Open n = n ≡ 0
+HasDigits (v.Wrong k) n = Fewest 10 1 k n
+
+-- a verdict's line is written to the front of a buffer, which held o and then holds x, up to a place within it
+pub record Said (v : Verdict) (o x : List ℕ) (next : ℕ) : Type 0 where
+  pub places : ℕ
+  pub fewest : HasDigits v places
+  pub wrote : Written o 0 (lineOf v places) x next
+  pub counts : Counts next x
