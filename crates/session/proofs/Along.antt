@@ -26,7 +26,7 @@ use Rattle.session.specs.Runs.{Cursor, mostOutput, lentTo, Turn, finishe
 use Rattle.session.specs.Said.{Progress, halt, onward, progressOf, Entering}
 use Rattle.session.proofs.Calls.{not-refused, call-few}
 use Rattle.session.proofs.Parts.{part-none, part-first, no-fault, lent-rest}
-use Rattle.session.proofs.Reaching.{progress-step, progress-short}
+use Rattle.session.proofs.Progress.{progress-step, progress-short}
 
 -- STEPS, by their tests
 
