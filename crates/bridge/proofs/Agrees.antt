@@ -2,9 +2,8 @@
 use Prim.Native.Nat.{ℕ, _<_}
 use mathlib.Core.Path.{refl, sym, subst}
 use mathlib.Core.List.{List}
-use Rattle.grammar.specs.Scanner.{opened, scanAt, scan}
-use Rattle.grammar.specs.Calls.{Agree}
-use Rattle.grammar.specs.declared.Opening.{Opening}
+use Rattle.grammar.specs.Scanner.{Opening, opened, scanAt, scan}
+use Rattle.grammar.proofs.Follows.{Agree}
 use Rattle.registers.specs.Ranges.{InRange}
 use Rattle.registers.specs.declared.Page.{Page}
 use Rattle.registers.specs.declared.Shared.{Shared}

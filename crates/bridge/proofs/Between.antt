@@ -5,12 +5,10 @@ use mathlib.Core.Bool.{false, cond}
 use mathlib.Core.List.{List}
 use native.Mathlib.Omega.{arith}
 use lib.Dec.{ltb}
+use Rattle.grammar.specs.Grammar.{Selected, Configured, Operands, None, One, Nine, Packet}
 use Rattle.grammar.specs.Scanner.{going, between}
 use Rattle.grammar.specs.declared.Interface.{Interface}
 use Rattle.grammar.specs.declared.Interface.the-variants.{I2C, SPI, OneWire}
-use Rattle.grammar.specs.declared.Needs.the-variants.{Selected, Configured}
-use Rattle.grammar.specs.declared.Operands.{Operands}
-use Rattle.grammar.specs.declared.Operands.the-variants.{None, One, Nine, Packet}
 use Rattle.grammar.specs.declared.Effect.{Effect}
 use Rattle.grammar.specs.declared.Effect.the-variants.{Keep, Configure, Resize}
 use Rattle.grammar.specs.declared.Place.the-variants.{Inside}

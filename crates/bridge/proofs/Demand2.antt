@@ -1,20 +1,24 @@
 -- Demand 2: what a call not refused gives. Assumes nothing.
 use Prim.Native.Nat.{ℕ, _+_, _*_, _≤_}
-use mathlib.Core.Path.{_≡_, refl, sym, ap, _∙_}
-use mathlib.Core.Bool.{true}
+use mathlib.Core.Path.{_≡_, refl, sym, ap, subst, _∙_}
+use mathlib.Core.Bool.{Bool, true, false, false≢true}
 use mathlib.Core.List.{List}
 use lib.ListN.{length}
 use Rattle.wire.specs.Action.{Action, bytesOf}
 use Rattle.wire.specs.Buffer.{overwrite}
+use Rattle.wire.specs.Sample.{SameFrom}
 use Rattle.wire.proofs.Actions.{bytes-length}
 use Rattle.wire.proofs.Buffers.{overwrite-right, overwrite-none}
+use Rattle.registers.specs.Ranges.{stateFits, InRange}
 use Rattle.registers.specs.declared.Event.{Event}
+use Rattle.registers.proofs.InRange.{range-test}
 use Rattle.commands.specs.Said.{isRejected}
-use Rattle.commands.specs.Plans.{sentBy}
+use Rattle.commands.specs.Plans.{Effect, sentBy}
 use Rattle.commands.proofs.Rejects.{event-rejects}
-use Rattle.refusals.specs.declared.Refusal.the-variants.{Actions, Replies}
+use Rattle.commands.proofs.Samples.{event-takes, event-same}
+use Rattle.refusals.specs.declared.Refusal.the-variants.{Ranges, Actions, Replies}
 use Rattle.bridge.specs.Calls.{Bridge, Taken, Lent, Given, effect, taken, answerOf}
-use Rattle.bridge.specs.Demands.{filled, OnlyErrorChanged, Demand2}
+use Rattle.bridge.specs.Demands.{filled, OnlyErrorChanged, Demand2, SameSamples}
 use Rattle.bridge.proofs.Ways.{room, Went, refused-for, was-taken, went}
 use Rattle.bridge.proofs.Demand1.{not-taken, demand-1}
 
@@ -36,14 +40,26 @@ module _ (b : Bridge) (e : Event) (l : Lent) where
     replies-fit : l .replied + length (sentBy (effect b e l)) ≤ length (l .replies)
     replies-fit = room (l .replies) (l .replied) _ (demand-1 b e l .taken-otherwise .0 z Replies)
 
+    in-range : InRange (b .state)
+    in-range = go (stateFits (b .state)) refl
+      where
+        go : (t : Bool) → stateFits (b .state) ≡ t → InRange (b .state)
+        go true h = range-test (b .state) .0 h
+        go false h = absurd (demand-1 b e l .taken-otherwise .0 z Ranges (λ r. false≢true (sym h ∙ range-test (b .state) .1 r)))
+
+    counted : (answerOf b e l) .answer .samples ≡ (effect b e l) .used
+    counted = ap (λ (g : Given). g .answer .samples) is
+
     only-error : isRejected ((effect b e l) .said) ≡ true → OnlyErrorChanged b e l
     only-error h =
         let x = event-rejects (b .state) e (l .samples) (l .sampled) h in
         record {
           code = x .code;
+          returned = x .returned;
+          rejects = x .rejects;
           state = ap (λ (g : Given). g .answer .bridge .state) is ∙ x .state;
           no-action = ap (λ (g : Given). g .answer .actions) is ∙ ap length (x .actions);
-          no-sample = ap (λ (g : Given). g .answer .samples) is ∙ x .used;
+          no-sample = counted ∙ x .used;
           pins = ap (λ (g : Given). g .actions) is ∙ ap (λ (k : List Action). overwrite (l .actions) (l .acted) (bytesOf k)) (x .actions) ∙ overwrite-none (l .actions) (l .acted);
         }
 
@@ -54,6 +70,21 @@ module _ (b : Bridge) (e : Event) (l : Lent) where
     replies-written = λ z. ap (λ (g : Given). g .replies) (is z) ∙ fill z (l .replies) (l .replied) (sentBy (effect b e l)) (replies-fit z);
     actions-counted = λ z. ap (λ (g : Given). 4 * g .answer .actions) (is z) ∙ sym (bytes-length ((effect b e l) .actions));
     replies-counted = λ z. ap (λ (g : Given). g .answer .replies) (is z);
-    samples-counted = λ z. ap (λ (g : Given). g .answer .samples) (is z);
+    samples-counted = counted;
+    samples-taken = λ y z. counted z ∙ event-takes (b .state) e (l .samples) (l .sampled) (in-range z) y;
     rejected = only-error;
   }
+
+-- THE SAME SAMPLES
+
+pub same-samples : (b : Bridge) (e : Event) (l k : Lent) → SameSamples b e l k
+same-samples b e l k = record {
+  effects = same;
+  answers = λ y z h.
+      ap (λ (g : Given). g .answer) (is b e l y)
+      ∙ ap (λ (x : Effect). (taken x l) .answer) (same (subst (λ (n : ℕ). SameFrom n (l .samples) (l .sampled) (k .samples) (k .sampled)) (counted b e l y) h))
+      ∙ sym (ap (λ (g : Given). g .answer) (is b e k z));
+}
+  where
+    same : SameFrom ((effect b e l) .used) (l .samples) (l .sampled) (k .samples) (k .sampled) → effect b e l ≡ effect b e k
+    same = event-same (b .state) e (l .samples) (l .sampled) (k .samples) (k .sampled)

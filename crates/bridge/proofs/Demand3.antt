@@ -12,11 +12,11 @@ use Rattle.registers.specs.declared.Event.the-variants as e
 use Rattle.commands.specs.Said.{codesOf}
 use Rattle.commands.proofs.Keeps.{event-keeps}
 use Rattle.grammar.specs.Scanner.{scan}
-use Rattle.grammar.specs.Calls.{Agree, Follows}
 use Rattle.grammar.specs.declared.Place.the-variants.{Between}
 use Rattle.grammar.specs.declared.Scanner.{Scanner}
 use Rattle.grammar.proofs.Demand3 as grammar
 use Rattle.grammar.proofs.Leads.{leads}
+use Rattle.grammar.proofs.Follows.{Agree, Follows}
 use Rattle.bridge.specs.Calls.{Bridge, Lent, Given, effect, answerOf}
 use Rattle.bridge.specs.Demands.{isRefused, machine, Demand3, ContextFollowed}
 use Rattle.bridge.proofs.View.{placeOf, viewOf}

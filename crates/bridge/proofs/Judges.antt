@@ -15,7 +15,7 @@ use Rattle.grammar.proofs.Verdicts.{judge-right}
 use Rattle.refusals.specs.declared.Refusal.the-variants.{Ranges, Waits}
 use Rattle.bridge.specs.Calls.{Bridge}
 use Rattle.bridge.specs.Views.{contextOf}
-use Rattle.bridge.specs.Judging.{Judgement, Judged, Refused, isIdle, judgementOf, JudgeCall}
+use Rattle.bridge.specs.Judging.{Judgement, Judged, Refused, isIdle, judgementOf, refusedWith, JudgeCall}
 
 idle-is : (w : Wait) → isIdle w ≡ true → w ≡ v.Nothing
 idle-is v.Nothing h = refl
@@ -32,7 +32,7 @@ module _ (b : Bridge) (bs : List ℕ) where
   Right : Judgement → Type 0
   Right j =
       ((w : Verdict) → (j ≡ Judged w) ↔ (InRange (b .state) × (b .state .wait ≡ v.Nothing) × Says (contextOf (b .state)) bs w))
-      × ((j ≡ Refused Ranges) ↔ (¬ InRange (b .state))) × ((j ≡ Refused Waits) ↔ (InRange (b .state) × (¬ (b .state .wait ≡ v.Nothing))))
+      × ((refusedWith j ≡ 1) ↔ (¬ InRange (b .state))) × ((refusedWith j ≡ 12) ↔ (InRange (b .state) × (¬ (b .state .wait ≡ v.Nothing))))
 
   right : (t u : Bool) → stateFits (b .state) ≡ t → isIdle (b .state .wait) ≡ u → Right (answer t u)
   unfolding answer Right
@@ -43,21 +43,21 @@ module _ (b : Bridge) (bs : List ℕ) where
           λ z. (n, i, judge-right (contextOf (b .state)) bs .answers w .0 (let x : judgeOf (contextOf (b .state)) bs ≡ w = cc in x)),
           λ s. ap Judged (judge-right (contextOf (b .state)) bs .answers w .1 (s .2)),
         ),
-        (λ z. let x : _≡_ {A = ℕ} 0 1 = cc in absurd (omega arith), λ m. absurd (m n)),
-        (λ z. let x : _≡_ {A = ℕ} 0 1 = cc in absurd (omega arith), λ m. absurd (m .1 i)),
+        (λ z. absurd (omega (arith, z)), λ m. absurd (m n)),
+        (λ z. absurd (omega (arith, z)), λ m. absurd (m .1 i)),
       )
   right true false p q =
       let n = range-test (b .state) .0 p in
       let busy : ¬ (b .state .wait ≡ v.Nothing) = λ e. false≢true (sym q ∙ ap isIdle e) in (
         λ w. (λ z. let x : _≡_ {A = ℕ} 0 1 = cc in absurd (omega arith), λ s. absurd (busy (s .1))),
-        (λ z. let x : _≡_ {A = ℕ} 0 1 = cc in absurd (omega arith), λ m. absurd (m n)),
+        (λ z. absurd (omega (arith, z)), λ m. absurd (m n)),
         (λ z. (n, busy), λ m. refl),
       )
   right false u p q =
       let broken : ¬ InRange (b .state) = λ n. false≢true (sym p ∙ range-test (b .state) .1 n) in (
         λ w. (λ z. let x : _≡_ {A = ℕ} 0 1 = cc in absurd (omega arith), λ s. absurd (broken (s .0))),
         (λ z. broken, λ m. refl),
-        (λ z. let x : _≡_ {A = ℕ} 0 1 = cc in absurd (omega arith), λ m. absurd (broken (m .0))),
+        (λ z. absurd (omega (arith, z)), λ m. absurd (broken (m .0))),
       )
 
   pub judge-call : JudgeCall b bs

@@ -13,4 +13,5 @@ pub mod Demand3
 pub mod Readies
 pub mod Answers
 pub mod Judges
+pub mod Faults
 pub mod Edges

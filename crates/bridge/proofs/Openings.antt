@@ -3,17 +3,11 @@ use Prim.Native.Nat.{ℕ, _<_}
 use mathlib.Core.Path.{_≡_, refl}
 use mathlib.Core.Bool.{cond}
 use lib.Dec.{ltb}
-use Rattle.grammar.specs.Grammar.{commands, extendedCommands}
-use Rattle.grammar.specs.Scanner.{openingOf, extensionOf}
+use Rattle.grammar.specs.Grammar.{Needs, Common, Selected, Configured, Operands, None, One, Nine, Packet, commands, extendedCommands}
+use Rattle.grammar.specs.Scanner.{Opening, Unknown, Known, Extension, openingOf, extensionOf}
 use Rattle.grammar.specs.declared.Interface.the-variants.{I2C, SPI, OneWire}
-use Rattle.grammar.specs.declared.Needs.{Needs}
-use Rattle.grammar.specs.declared.Needs.the-variants.{Common, Selected, Configured}
-use Rattle.grammar.specs.declared.Operands.{Operands}
-use Rattle.grammar.specs.declared.Operands.the-variants.{None, One, Nine, Packet}
 use Rattle.grammar.specs.declared.Effect.{Effect}
 use Rattle.grammar.specs.declared.Effect.the-variants.{Keep, Clear, Select, Configure, Resize}
-use Rattle.grammar.specs.declared.Opening.{Opening}
-use Rattle.grammar.specs.declared.Opening.the-variants.{Unknown, Known, Extension}
 use Rattle.grammar.proofs.Lookups.{values, byte-fact}
 use Rattle.commands.specs.Common.{commonOf}
 use Rattle.commands.specs.Extended.{extendedOf}

@@ -4,21 +4,17 @@ use mathlib.Core.Path.{_≡_, refl, ap, subst}
 use mathlib.Core.Bool.{Bool, true, false, cond, _&&_}
 use mathlib.Core.List.{[], _∷_}
 use native.Mathlib.Omega.{arith}
-use Rattle.grammar.specs.Grammar.{selected, count}
-use Rattle.grammar.specs.Scanner.{going, opened}
-use Rattle.grammar.specs.Calls.{Agree}
+use Rattle.grammar.specs.Grammar.{Selected, Configured, Operands, selected, count}
+use Rattle.grammar.specs.Scanner.{Opening, Unknown, going, opened}
 use Rattle.grammar.specs.declared.Interface.{Interface}
 use Rattle.grammar.specs.declared.Interface.the-variants.{SPI}
 use Rattle.grammar.specs.declared.Context.{Context}
-use Rattle.grammar.specs.declared.Needs.the-variants.{Selected, Configured}
-use Rattle.grammar.specs.declared.Operands.{Operands}
 use Rattle.grammar.specs.declared.Effect.{Effect}
 use Rattle.grammar.specs.declared.Place.the-variants.{Inside}
 use Rattle.grammar.specs.declared.Scanner.{Scanner}
 use Rattle.grammar.specs.declared.Scanned.{Scanned}
 use Rattle.grammar.specs.declared.Scanned.the-variants.{Accepted, Rejected}
-use Rattle.grammar.specs.declared.Opening.{Opening}
-use Rattle.grammar.specs.declared.Opening.the-variants.{Unknown}
+use Rattle.grammar.proofs.Follows.{Agree}
 use Rattle.registers.specs.declared.State.{State}
 use Rattle.signals.specs.Waveforms.{Wave}
 use Rattle.commands.specs.Said.{codesOf}

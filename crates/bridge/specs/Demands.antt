@@ -3,10 +3,12 @@
 use Prim.Native.Nat.{ℕ, _+_, _-_, _*_, _<_}
 use mathlib.Core.Path.{_≡_}
 use mathlib.Core.Bool.{Bool, true, false}
-use mathlib.Core.List.{List, _++_}
+use mathlib.Core.List.{List, [], _∷_, _++_}
 use mathlib.Core.Logic.{_↔_, _⊎_}
 use lib.ListN.{length, take, drop}
 use Rattle.wire.specs.Action.{bytesOf}
+use Rattle.codes.specs.Codes.{rejecting}
+use Rattle.wire.specs.Sample.{samplings, SameFrom}
 use Rattle.registers.specs.Registers.{withPage, withError}
 use Rattle.registers.specs.Ranges.{InRange}
 use Rattle.registers.specs.declared.Event.{Event}
@@ -14,6 +16,7 @@ use Rattle.registers.specs.declared.Event.the-variants as e
 use Rattle.registers.specs.declared.Wait.the-variants as v
 use Rattle.commands.specs.Said.{codesOf, isRejected}
 use Rattle.commands.specs.Plans.{sentBy}
+use Rattle.commands.specs.Promises.{Sized}
 use Rattle.grammar.specs.Calls.{Machine, Call}
 use Rattle.grammar.specs.Calls as grammar
 use Rattle.grammar.specs.Following.{Leads}
@@ -69,9 +72,12 @@ pub record Demand1 (b : Bridge) (e : Event) (l : Lent) : Type 0 where
 abbrev pub filled : List ℕ → ℕ → List ℕ → List ℕ
 filled bytes mark xs = take mark bytes ++ xs ++ drop (mark + length xs) bytes
 
--- "A rejected byte changes the error register, nothing else of the state, and moves no pin."
+-- "A rejected byte changes the error register, nothing else of the state, and moves no pin." ERROR then holds the one code that it
+-- returned, 80 or 40.
 pub record OnlyErrorChanged (b : Bridge) (e : Event) (l : Lent) : Type 0 where
   pub code : ℕ
+  pub returned : codesOf ((effect b e l) .said) ≡ code ∷ []
+  pub rejects : rejecting code ≡ true
   pub state : (answerOf b e l) .answer .bridge .state ≡ withPage (b .state) (withError (b .state .page) code)
   pub no-action : (answerOf b e l) .answer .actions ≡ 0
   pub no-sample : (answerOf b e l) .answer .samples ≡ 0
@@ -85,7 +91,15 @@ pub record Demand2 (b : Bridge) (e : Event) (l : Lent) : Type 0 where
   pub actions-counted : outcome b e l ≡ Taken → 4 * (answerOf b e l) .answer .actions ≡ length (bytesOf ((effect b e l) .actions))
   pub replies-counted : outcome b e l ≡ Taken → (answerOf b e l) .answer .replies ≡ length (sentBy (effect b e l))
   pub samples-counted : outcome b e l ≡ Taken → (answerOf b e l) .answer .samples ≡ (effect b e l) .used
+  -- and the samples used are those taken, by the actions with verb 3 or 7 (`Sized`: an array of the state has its size)
+  pub samples-taken : Sized (b .state) → outcome b e l ≡ Taken → (answerOf b e l) .answer .samples ≡ samplings ((effect b e l) .actions)
   pub rejected : outcome b e l ≡ Taken → isRejected ((effect b e l) .said) ≡ true → OnlyErrorChanged b e l
+
+-- THEOREM (proofs/Demand2.antt, `same-samples`): two calls whose samples agree, on the places that the first one uses and from the
+-- marks on, do the same; so no sample is used but those counted
+pub record SameSamples (b : Bridge) (e : Event) (l k : Lent) : Type 0 where
+  pub effects : SameFrom ((effect b e l) .used) (l .samples) (l .sampled) (k .samples) (k .sampled) → effect b e l ≡ effect b e k
+  pub answers : outcome b e l ≡ Taken → outcome b e k ≡ Taken → SameFrom ((answerOf b e l) .answer .samples) (l .samples) (l .sampled) (k .samples) (k .sampled) → (answerOf b e l) .answer ≡ (answerOf b e k) .answer
 
 -- DEMAND 3: one statement about every list of calls that each hand over one byte, whatever is lent, refused ones included
 

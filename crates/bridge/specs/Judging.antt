@@ -9,6 +9,7 @@ use Rattle.registers.specs.declared.Wait.{Wait}
 use Rattle.registers.specs.declared.Wait.the-variants as v
 use Rattle.grammar.specs.Verdict.{judgeOf, Says}
 use Rattle.grammar.specs.declared.Verdict.{Verdict}
+use Rattle.refusals.specs.Refusals.{numberOf}
 use Rattle.refusals.specs.declared.Refusal.the-variants.{Ranges, Waits}
 use Rattle.bridge.specs.Calls.{Bridge}
 use Rattle.bridge.specs.Views.{contextOf}
@@ -26,11 +27,16 @@ unfoldable pub judgementOf : Bridge → List ℕ → Judgement
 judgementOf b bs =
     cond (stateFits (b .state)) (cond (isIdle (b .state .wait)) (Judged (judgeOf (contextOf (b .state)) bs)) (Refused Waits)) (Refused Ranges)
 
+-- the number that a call is refused with, 0 where it judged
+abbrev pub refusedWith : Judgement → ℕ
+refusedWith (Judged w) = 0
+refusedWith (Refused r) = numberOf r
+
 -- THEOREM (proofs/Judges.antt, `judge-call`): the call's answers are 01's
 pub record JudgeCall (b : Bridge) (bs : List ℕ) : Type 0 where
   -- "A start between commands breaks no range and waits for nothing"; there the verdict is what 01 says of the bytes
   pub judged : (w : Verdict) → (judgementOf b bs ≡ Judged w) ↔ (InRange (b .state) × (b .state .wait ≡ v.Nothing) × Says (contextOf (b .state)) bs w)
-  -- refusal 1
-  pub ranges : (judgementOf b bs ≡ Refused Ranges) ↔ (¬ InRange (b .state))
-  -- refusal 12, where 1 does not apply
-  pub waits : (judgementOf b bs ≡ Refused Waits) ↔ (InRange (b .state) × (¬ (b .state .wait ≡ v.Nothing)))
+  -- 1 "the state breaks its ranges"
+  pub ranges : (refusedWith (judgementOf b bs) ≡ 1) ↔ (¬ InRange (b .state))
+  -- 12 "judge's start waits for something", where 1 does not apply
+  pub waits : (refusedWith (judgementOf b bs) ≡ 12) ↔ (InRange (b .state) × (¬ (b .state .wait ≡ v.Nothing)))

@@ -1,8 +1,10 @@
--- A byte that is none of a table's codes is not found there. Assumes nothing.
+-- What a table's lookup finds: a meaning that has what all of them have, or none where the byte is none of its codes. Assumes nothing.
 use Prim.Native.Nat.{ℕ}
 use mathlib.Core.Path.{_≡_, refl}
+use mathlib.Core.Bool.{Bool, true, false, cond}
 use mathlib.Core.List.{List, [], _∷_}
 use borrow.Author.Tests.{ne-eqb}
+use lib.Dec.{eqb}
 use Rattle.codes.specs.Tables.{Entry, lookup}
 
 -- what the last arm of a match over a table's codes knows, after N
@@ -19,3 +21,17 @@ missed unknown N [] b m = refl
 missed unknown N (e ∷ es) b m =
     let ne = missed-front (N × (b ≡ e .code → ⊥)) es b m in
     rw (ne-eqb b (e .code) (ne .1)) (missed unknown (N × (b ≡ e .code → ⊥)) es b m)
+
+-- each meaning of a table has P
+abbrev pub Every : {A : Type 0} → (A → Type 0) → List (Entry A) → Type 0
+Every P [] = Unit {0}
+Every P (e ∷ es) = P (e .meaning) × Every P es
+
+-- what both ways have, the one that a test chooses has
+pub either : {A : Type 0} (P : A → Type 0) (t : Bool) (x y : A) → P x → P y → P (cond t x y)
+either P true x y p q = p
+either P false x y p q = q
+
+pub found : {A : Type 0} (P : A → Type 0) (unknown : A) (b : ℕ) (es : List (Entry A)) → P unknown → Every P es → P (lookup unknown b es)
+found P unknown b [] u h = u
+found P unknown b (e ∷ es) u h = either P (eqb b (e .code)) (e .meaning) (lookup unknown b es) (h .0) (found P unknown b es u (h .1))

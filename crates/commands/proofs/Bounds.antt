@@ -21,12 +21,29 @@ use Rattle.signals.specs.declared.Waveform.the-variants as w
 use Rattle.commands.specs.Said.{returned, sent, repliesOf}
 use Rattle.commands.specs.Plans.{Plan, Answer, Silent, Returns, ReturnsTwice, ReturnsAndSends, Checked, Sends, SendsSample, SendsLevel, SendsEprom, SendsSerial, SendsTimings, SendsPacket, SendsLow, ReturnsThenLow, saidOf, received, carriedOut}
 use Rattle.commands.specs.Events.{planOf, effectOf}
-use Rattle.commands.specs.Promises.{mostReplies, Sized, replyCount, FewActions, FewReplies}
+use Rattle.commands.specs.Promises.{mostReplies, Sized, FewActions, FewReplies}
 use Rattle.commands.proofs.Choices.{at-most}
 use Rattle.commands.proofs.Sent.{replies-sent}
 use Rattle.commands.proofs.KeptParts.{Kept}
 use Rattle.commands.proofs.Keeps.{plan-keeps}
 use Rattle.commands.proofs.Clauses.{short, Clause, fine, long, coded, coded-always, plan-clause}
+
+-- how many bytes an answer sends, with reports on or off
+abbrev replyCount : Bool → State → Answer → ℕ
+replyCount reports s Silent = 0
+replyCount reports s (Returns k) = cond reports 1 0
+replyCount reports s ReturnsTwice = cond reports 2 0
+replyCount reports s (ReturnsAndSends k) = 1
+replyCount reports s (Checked k) = cond reports 1 0
+replyCount reports s (Sends x) = 1
+replyCount reports s SendsSample = 1
+replyCount reports s SendsLevel = 1
+replyCount reports s SendsEprom = 10
+replyCount reports s SendsSerial = 4
+replyCount reports s SendsTimings = 9
+replyCount reports s SendsPacket = registerBytes
+replyCount reports s SendsLow = packetBytes (bitsIn (s .page))
+replyCount reports s ReturnsThenLow = cond reports 1 0 + packetBytes (bitsIn (s .page))
 
 one-or-none : (on : Bool) (k : ℕ) → length (cond on (k ∷ []) []) ≡ cond on 1 0
 one-or-none true k = refl
@@ -47,7 +64,7 @@ module _ (s : State) (z : Sized s) (h : s .page .size < width) where
       let m : min (packetBytes (bitsIn (s .page))) registerBytes ≡ packetBytes (bitsIn (s .page)) = omega arith in
       sym l ∙ m
 
-  pub reply-count : (on : Bool) (x : ℕ) (a : Answer) → length (repliesOf on (saidOf s x a)) ≡ replyCount on s a
+  reply-count : (on : Bool) (x : ℕ) (a : Answer) → length (repliesOf on (saidOf s x a)) ≡ replyCount on s a
   unfolding repliesOf
   reply-count on x Silent = refl
   reply-count on x (Returns k) = one-or-none on k

@@ -1,10 +1,11 @@
 -- Every clause of 01's sections, sorted by what it may answer: read once, for the laws about all events. Assumes nothing.
 use Prim.Native.Nat.{ℕ}
 use mathlib.Core.Path.{_≡_, refl}
-use mathlib.Core.Bool.{Bool, true, false, not, cond}
+use mathlib.Core.Bool.{Bool, true, false, not}
 use mathlib.Core.List.{List}
 use lib.Dec.{eqb, ltb}
 use Rattle.codes.specs.Codes.{rejecting}
+use Rattle.codes.proofs.Lookup.{either}
 use Rattle.registers.specs.Registers.{i2cSelected, spiSelected, wireSelected}
 use Rattle.registers.specs.declared.State.{State}
 use Rattle.registers.specs.declared.Operand.{Operand}
@@ -70,10 +71,6 @@ pub data Clause (s : State) (a : Plan) : Type 0 where
   coded : (code : ℕ) → a ≡ returns s code → Clause s a
   coded-always : (code : ℕ) → a ≡ sends s (ReturnsAndSends code) → Clause s a
 
-choice : (s : State) (t : Bool) (a b : Plan) → Clause s a → Clause s b → Clause s (cond t a b)
-choice s true a b c d = c
-choice s false a b c d = d
-
 module _ (s : State) where
   common-clause : (c : CommonCommand) → Clause s (runCommon s c)
   common-clause k.ResetDevice = fine refl refl
@@ -113,16 +110,16 @@ module _ (s : State) where
 
   spi-clause : (c : SpiCommand) → Clause s (runSpi s c)
   spi-clause p.LoadConfig = fine refl refl
-  spi-clause p.ReadConfig = choice s (s .page .configured) _ _ (fine refl refl) (coded-always 0x40 refl)
+  spi-clause p.ReadConfig = either (Clause s) (s .page .configured) _ _ (fine refl refl) (coded-always 0x40 refl)
   spi-clause p.LoadSize = fine refl refl
   spi-clause p.ReadSize = fine refl refl
-  spi-clause (p.LoadPacket a) = choice s (s .page .configured) _ _ (fine refl refl) (coded 0x40 refl)
+  spi-clause (p.LoadPacket a) = either (Clause s) (s .page .configured) _ _ (fine refl refl) (coded 0x40 refl)
   spi-clause p.ReadPacket = long refl refl
-  spi-clause p.StartExchange = choice s (s .page .configured) _ _ (fine refl refl) (coded 0x40 refl)
+  spi-clause p.StartExchange = either (Clause s) (s .page .configured) _ _ (fine refl refl) (coded 0x40 refl)
   spi-clause (p.DriveSs a) = fine refl refl
   spi-clause p.ReadSs = fine refl refl
   spi-clause p.ReadLow = long refl refl
-  spi-clause p.ExchangeAndRead = choice s (s .page .configured) _ _ (long refl refl) (coded 0x40 refl)
+  spi-clause p.ExchangeAndRead = either (Clause s) (s .page .configured) _ _ (long refl refl) (coded 0x40 refl)
   spi-clause p.NoSpi = coded 0x80 refl
 
   wire-clause : (c : WireCommand) → Clause s (runWire s c)
@@ -141,10 +138,10 @@ module _ (s : State) where
   command-clause : (b : ℕ) → Clause s (commandPlan s b)
   command-clause b =
       let unknown : Clause s (returns s 0x80) = coded 0x80 refl in
-      choice s (ltb b 0x20) _ _ (common-clause (commonOf b))
-      (choice s (ltb b 0x40) _ _ (choice s (i2cSelected (s .page .flags)) _ _ (i2c-clause (i2cOf b)) unknown)
-      (choice s (ltb b 0x60) _ _ (choice s (spiSelected (s .page .flags)) _ _ (spi-clause (spiOf b)) unknown)
-      (choice s (wireSelected (s .page .flags)) _ _ (wire-clause (wireOf b)) unknown)))
+      either (Clause s) (ltb b 0x20) _ _ (common-clause (commonOf b))
+      (either (Clause s) (ltb b 0x40) _ _ (either (Clause s) (i2cSelected (s .page .flags)) _ _ (i2c-clause (i2cOf b)) unknown)
+      (either (Clause s) (ltb b 0x60) _ _ (either (Clause s) (spiSelected (s .page .flags)) _ _ (spi-clause (spiOf b)) unknown)
+      (either (Clause s) (wireSelected (s .page .flags)) _ _ (wire-clause (wireOf b)) unknown)))
 
   operand-clause : (a : Operand) (b : ℕ) → Clause s (operandPlan s a b)
   operand-clause (o.ToPort a) b = fine refl refl
@@ -164,8 +161,8 @@ module _ (s : State) where
   byte-clause v.Nothing b = command-clause b
   byte-clause (v.One a) b = operand-clause a b
   byte-clause v.Extended b = extended-clause (extendedOf b)
-  byte-clause (v.Packet left exchange) b = choice s (eqb left 1) _ _ (loaded-clause _ exchange) (fine refl refl)
-  byte-clause (v.Timings left) b = choice s (eqb left 1) _ _ (fine refl refl) (fine refl refl)
+  byte-clause (v.Packet left exchange) b = either (Clause s) (eqb left 1) _ _ (loaded-clause _ exchange) (fine refl refl)
+  byte-clause (v.Timings left) b = either (Clause s) (eqb left 1) _ _ (fine refl refl) (fine refl refl)
 
   pub plan-clause : (a : Event) → Clause s (planOf s a)
   plan-clause (e.Byte b) = byte-clause (s .wait) b

@@ -6,4 +6,5 @@ pub mod Keeps
 pub mod Clauses
 pub mod Rejects
 pub mod Bounds
-pub mod Edges
+pub mod OneBit
+pub mod Samples

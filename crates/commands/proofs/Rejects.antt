@@ -1,4 +1,4 @@
--- A rejected byte changes ERROR and nothing else of the state, and moves no pin. Assumes nothing.
+-- A rejected byte returns one code, which ERROR holds then, changes nothing else of the state and moves no pin. Assumes nothing.
 use Prim.Native.Nat.{ℕ}
 use mathlib.Core.Path.{_≡_, refl, sym, ap, _∙_, subst}
 use mathlib.Core.Bool.{Bool, true, false, not, cond, _||_, true≢false, false≢true}
@@ -20,6 +20,10 @@ use Rattle.commands.proofs.Clauses.{calm, Clause, fine, long, coded, co
 or-false : (t : Bool) → not t ≡ true → t || false ≡ false
 or-false true h = sym h
 or-false false h = refl
+
+or-true : (t : Bool) → t || false ≡ true → t ≡ true
+or-true true h = refl
+or-true false h = h
 
 data-calm : (xs : List ℕ) → isRejected (map sent xs) ≡ false
 data-calm xs = ap anyRejecting (codes-sent xs)
@@ -51,20 +55,23 @@ module _ (s : State) (ss : List ℕ) (m : ℕ) where
   abbrev carried : Plan → Effect
   carried a = carriedOut a (waveOf (a .state .page) (a .wave) ss m)
 
-  returned-only : (code : ℕ) → OnlyError s (carried (returns s code))
-  unfolding carriedOut waveOf errorAfter
-  returned-only code = record { code = code; state = refl; actions = refl; used = refl }
+  returned-only : (code : ℕ) → isRejected ((carried (returns s code)) .said) ≡ true → OnlyError s (carried (returns s code))
+  unfolding carriedOut waveOf errorAfter codesOf
+  returned-only code h = record { code = code; returned = refl; rejects = or-true (rejecting code) h; state = refl; actions = refl; used = refl }
 
-  sent-only : (code : ℕ) → OnlyError s (carried (sends s (ReturnsAndSends code)))
-  unfolding carriedOut waveOf errorAfter
-  sent-only code = record { code = code; state = refl; actions = refl; used = refl }
+  sent-only : (code : ℕ) → isRejected ((carried (sends s (ReturnsAndSends code))) .said) ≡ true → OnlyError s (carried (sends s (ReturnsAndSends code)))
+  unfolding carriedOut waveOf errorAfter codesOf
+  sent-only code h = record { code = code; returned = refl; rejects = or-true (rejecting code) h; state = refl; actions = refl; used = refl }
 
-  only-error : (a : Plan) → Clause s a → isRejected ((carried a) .said) ≡ true → OnlyError s (carried a)
+  abbrev Only : Plan → Type 0
+  Only a = isRejected ((carried a) .said) ≡ true → OnlyError s (carried a)
+
+  only-error : (a : Plan) → Clause s a → Only a
   unfolding carriedOut
   only-error a (fine c _) h = absurd (true≢false (sym h ∙ calm-said _ _ (a .answer) c))
   only-error a (long c _) h = absurd (true≢false (sym h ∙ calm-said _ _ (a .answer) c))
-  only-error a (coded code q) h = subst (λ (b : Plan). OnlyError s (carried b)) (sym q) (returned-only code)
-  only-error a (coded-always code q) h = subst (λ (b : Plan). OnlyError s (carried b)) (sym q) (sent-only code)
+  only-error a (coded code q) h = subst Only (sym q) (returned-only code) h
+  only-error a (coded-always code q) h = subst Only (sym q) (sent-only code) h
 
 pub event-rejects : (s : State) (a : Event) (ss : List ℕ) (m : ℕ) → Rejects s a ss m
 unfolding effectOf

@@ -1,11 +1,12 @@
 -- The common commands (01, "Registers and common commands"), a clause a command.
 use Prim.Native.Nat.{ℕ, _+_, _*_, _/_, _%_}
+use mathlib.Core.Path.{_≡_}
 use mathlib.Core.Bool.{Bool, true, false, cond}
 use mathlib.Core.List.{List, [], _∷_}
-use lib.Dec.{eqb}
 use Rattle.codes.specs.Tables.{Entry, _is_, lookup}
 use Rattle.wire.specs.Action.{waitCycles, cs, ss, portB, portC, portD}
 use Rattle.registers.specs.Registers.{spiSelected, registerOf, withRegister, withFlags, withError, withPage, withShared}
+use Rattle.registers.specs.Protected.{bit}
 use Rattle.registers.specs.declared.Page.{Page}
 use Rattle.registers.specs.declared.Shared.{Shared}
 use Rattle.registers.specs.declared.State.{State}
@@ -45,6 +46,17 @@ bitOf on = cond on 1 0
 
 abbrev pub withBit : Bit → Bool → ℕ → ℕ
 withBit b on x = x % weightOf b + bitOf on * weightOf b + x / (weightOf b * 2) * (weightOf b * 2)
+
+-- its number
+abbrev pub placeOf : Bit → ℕ
+placeOf Three = 3
+placeOf Four = 4
+placeOf Five = 5
+
+-- THEOREM (proofs/OneBit.antt, `one-bit`): the bit of that number is set or cleared, and every other is the register's
+pub record OneBit (b : Bit) (on : Bool) (x : ℕ) : Type 0 where
+  pub own : bit (placeOf b) (withBit b on x) ≡ bitOf on
+  pub others : (i : ℕ) → ¬ (i ≡ placeOf b) → bit i (withBit b on x) ≡ bit i x
 
 -- THE REGISTERS
 

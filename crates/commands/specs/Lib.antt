@@ -8,4 +8,3 @@ pub mod OneWire
 pub mod Events
 pub mod Changes
 pub mod Promises
-pub mod Edges

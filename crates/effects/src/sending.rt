@@ -110,12 +110,12 @@ pub fn put_reply(out: &mut [u8], s: State, reply: Reply) -> usize
         }
         Reply::Low => {
             let r = s.page.packet;
-            packet::put_low(out, 0, r, bits)
+            packet::put_low(out, r, bits)
         }
         Reply::OneThenLow(a) => {
             let r = s.page.packet;
             let at = wire::put_bytes(out, 0, &[a]);
-            packet::put_low(out, at, r, bits)
+            at + packet::put_low(&mut out[at..], r, bits)
         }
     }
 }

@@ -29,7 +29,8 @@ fn say_expected(fd: i32, e: Expected) {
     }
 }
 
-// Says in a line where a script is wrong and what was expected there.
+// Says in a line where a script is wrong and what was expected there. It answers nothing and is lent nothing to change, and what is
+// written to a descriptor no contract can say, so it has none; where the place stands is `text::place::position`'s to promise.
 pub fn explain(fd: i32, text: &[u8], place: usize, expected: Expected) {
     let p = text::place::position(text, place);
     say(fd, b"line ");

@@ -6,7 +6,7 @@ use mathlib.Core.Bool.{Bool, true, false, cond}
 use mathlib.Core.List.{List, [], _∷_}
 use native.Mathlib.Omega.{arith}
 use lib.ListN.{length, take}
-use Rattle.codes.specs.Codes.{rejecting}
+use Rattle.codes.specs.Codes.{noConfiguration, unknownCommand, rejecting}
 use Rattle.grammar.specs.Grammar.{SPI, Context, Needs, Common, Selected, Configured, selected, legal, count}
 use Rattle.grammar.specs.Scanner.{Place, Between, Extended, Inside, Scanner, Scanned, Accepted, Rejected, Opening, Unknown, Known, Extension, openingOf, extensionOf, codeFor, between, going, opened, scanAt, scan, Course, through, rejectedAt, later, resume, scanAll}
 use Rattle.grammar.specs.Verdict.{Decided}
@@ -87,7 +87,7 @@ code-rejecting Common c = refl
 code-rejecting (Selected i) c = refl
 code-rejecting Configured c = go (selected SPI c)
   where
-    go : (t : Bool) → rejecting (cond t 0x40 0x80) ≡ true
+    go : (t : Bool) → rejecting (cond t noConfiguration unknownCommand) ≡ true
     go true = refl
     go false = refl
 

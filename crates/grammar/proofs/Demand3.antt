@@ -9,7 +9,8 @@ use Rattle.codes.specs.Codes.{anyRejecting}
 use Rattle.grammar.specs.Grammar.{Context}
 use Rattle.grammar.specs.Scanner.{Scanner, Scanned, Accepted, Rejected, between, scan, Course, through, rejectedAt, later, resume, scanAll}
 use Rattle.grammar.specs.Verdict.{FirstWrong}
-use Rattle.grammar.specs.Calls.{Machine, Call, Taken, answered, taken, final, bytes, told, wasRejected, NoneRejected, FirstRejected, Demand3, Agree, Follows}
+use Rattle.grammar.specs.Calls.{Machine, Call, Taken, answered, taken, final, bytes, told, wasRejected, NoneRejected, FirstRejected, Demand3}
+use Rattle.grammar.proofs.Follows.{Agree, Follows}
 use Rattle.grammar.proofs.Divisions.{one-division}
 use Rattle.grammar.proofs.Decides.{decides, reject-code}
 

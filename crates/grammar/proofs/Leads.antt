@@ -4,8 +4,9 @@ use mathlib.Core.Path.{_≡_, refl, sym, _∙_, ap}
 use mathlib.Core.Bool.{Bool, true, false, cond}
 use mathlib.Core.List.{List, [], _∷_}
 use Rattle.grammar.specs.Scanner.{Scanner, Scanned, Accepted, Rejected, scan}
-use Rattle.grammar.specs.Calls.{Machine, Call, Taken, answered, taken, final, bytes, Agree, Follows}
+use Rattle.grammar.specs.Calls.{Machine, Call, Taken, answered, taken, final, bytes}
 use Rattle.grammar.specs.Following.{passing, followed, Leads}
+use Rattle.grammar.proofs.Follows.{Agree, Follows}
 use Rattle.grammar.proofs.Demand3.{seen-between}
 
 agreed : (o : Scanned) (ws : List ℕ) (v w : Scanner) → Agree o ws v w → w ≡ passing v o

@@ -6,6 +6,6 @@ pub mod Walks
 pub mod Divisions
 pub mod Decides
 pub mod Verdicts
+pub mod Follows
 pub mod Demand3
 pub mod Leads
-pub mod Edges

@@ -7,7 +7,6 @@ use mathlib.Core.Logic.{_↔_}
 use lib.ListN.{getD}
 use Rattle.codes.specs.Codes.{anyRejecting}
 use Rattle.grammar.specs.Grammar.{Context, Division, Orderly, Continuable}
-use Rattle.grammar.specs.Scanner.{Between, Scanner, Scanned, Accepted, Rejected, scan}
 use Rattle.grammar.specs.Verdict.{FirstWrong}
 
 -- a machine that takes a byte and what is lent to it, and answers
@@ -71,23 +70,9 @@ NoneRejected cs = (j : ℕ) → wasRejected cs j ≡ false
 abbrev pub FirstRejected : List (List ℕ) → ℕ → Type 0
 FirstRejected cs k = (wasRejected cs k ≡ true) × ((j : ℕ) → j < k → wasRejected cs j ≡ false)
 
--- DEMAND 3, of one list of calls from a state s
+-- DEMAND 3, of one list of calls from a state s (proofs/Demand3.antt, `demand-3`, of every machine that follows the scanner)
 pub record Demand3 (M : Machine) (s : M .State) (ks : List (Call M)) : Type 0 where
   pub none-rejected : NoneRejected (told M (taken M s ks)) ↔ Continuable (M .context s) (bytes M (taken M s ks))
   pub first-rejected : (k : ℕ) → FirstRejected (told M (taken M s ks)) k ↔ FirstWrong (M .context s) (bytes M (taken M s ks)) k
   pub waits-for-nothing : (M .Idle (final M s ks) × NoneRejected (told M (taken M s ks))) ↔ Orderly (M .context s) (bytes M (taken M s ks))
   pub divided-once : (p q : Division (M .context s) (bytes M (taken M s ks))) → p .0 ≡ q .0
-
--- WHAT A MACHINE SHOWS to have it (proofs/Demand3.antt, `demand-3`): seen through a view of its state it follows the scanner
-
--- what the scanner makes of a byte, the codes that the machine returns, and the views before and after
-abbrev pub Agree : Scanned → List ℕ → Scanner → Scanner → Type 0
-Agree (Accepted g) ws v v′ = (anyRejecting ws ≡ false) × (v′ ≡ g)
-Agree (Rejected w) ws v v′ = (ws ≡ w ∷ []) × (v′ ≡ v)
-
-pub record Follows (M : Machine) (view : M .State → Scanner) : Type 0 where
-  pub viewed : (s : M .State) → view s .context ≡ M .context s
-  pub idle : (s : M .State) → M .Idle s ↔ (view s .place ≡ Between)
-  pub kept : (s : M .State) (b : ℕ) (l : M .Lent) → M .refuses s b l ≡ true → M .next s b l ≡ s
-  pub good : (s : M .State) (b : ℕ) (l : M .Lent) → b < 256 → M .Good s → M .Good (M .next s b l)
-  pub step : (s : M .State) (b : ℕ) (l : M .Lent) → b < 256 → M .Good s → M .refuses s b l ≡ false → Agree (scan (view s) b) (M .codes s b l) (view s) (view (M .next s b l))

@@ -27,7 +27,10 @@ operandsOf Unknown c = 0
 operandsOf (Known k) c = count (k .operands) c
 operandsOf Extension c = 1
 
--- .. of a byte after 1D, and of one between items
+-- what a byte opens after 1D, and between items
+abbrev pub openingIn : ℕ → Bool → Opening
+openingIn b true = extensionOf b
+openingIn b false = openingOf b
+
 abbrev pub operandsIn : Context → ℕ → Bool → ℕ
-operandsIn c b true = operandsOf (extensionOf b) c
-operandsIn c b false = operandsOf (openingOf b) c
+operandsIn c b extended = operandsOf (openingIn b extended) c

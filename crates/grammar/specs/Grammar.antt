@@ -1,5 +1,5 @@
--- The grammar of command streams (01, "Grammar"), written without the bridge. Bytes are numbers. The types are declared in
--- src/lib.rt, each with 01's words.
+-- The grammar of command streams (01, "Grammar"), written without the bridge. Bytes are numbers. Interface, context and effect are
+-- declared in src/lib.rt, each with 01's words.
 use Prim.Native.Nat.{ℕ, _<_}
 use mathlib.Core.Path.{_≡_}
 use mathlib.Core.Bool.{Bool, true, false, _&&_}
@@ -10,16 +10,30 @@ use Rattle.packet.specs.Packet.{width, sizeOf, packetBytes}
 pub use Rattle.grammar.specs.declared.Interface.{Interface}
 pub use Rattle.grammar.specs.declared.Interface.the-variants.{NoInterface, I2C, SPI, OneWire}
 pub use Rattle.grammar.specs.declared.Context.{Context}
-pub use Rattle.grammar.specs.declared.Needs.{Needs}
-pub use Rattle.grammar.specs.declared.Needs.the-variants.{Common, Selected, Configured}
-pub use Rattle.grammar.specs.declared.Operands.{Operands}
-pub use Rattle.grammar.specs.declared.Operands.the-variants.{None, One, Nine, Packet}
 pub use Rattle.grammar.specs.declared.Effect.{Effect}
 pub use Rattle.grammar.specs.declared.Effect.the-variants.{Keep, Clear, Select, Configure, Resize}
-pub use Rattle.grammar.specs.declared.Command.{Command}
 
 -- THE COMMAND LIST: a row for each command byte but 1D, in 01's order: what it needs of the context, its operands, and what
 -- it does to the context
+
+-- nothing (a common one), its interface selected, or SPI selected and configured
+pub data Needs : Type 0 where
+  Common : Needs
+  Selected : Interface → Needs
+  Configured : Needs
+
+-- none, one, nine, or as many as a packet of N bits
+pub data Operands : Type 0 where
+  None : Operands
+  One : Operands
+  Nine : Operands
+  Packet : Operands
+
+pub record Command : Type 0 where
+  pub code : ℕ
+  pub needs : Needs
+  pub operands : Operands
+  pub effect : Effect
 
 -- rows that differ in their codes alone
 abbrev pub each : List ℕ → Needs → Operands → Effect → List Command
@@ -102,18 +116,23 @@ count One c = 1
 count Nine c = 9
 count Packet c = packetBytes (c .bits)
 
+-- "none, unconfigured, N = 1"
+abbrev pub cleared : Context
+cleared = record { interface = NoInterface; configured = false; bits = 1 }
+
 -- the context after an item whose last byte is b: "00 clears the context to none, unconfigured, N = 1; 01 to 03 change the
 -- interface; 40 configures; 42 sets N. Nothing else changes it."
 abbrev pub after : Effect → ℕ → Context → Context
 after Keep b c = c
-after Clear b c = record { interface = NoInterface; configured = false; bits = 1 }
+after Clear b c = cleared
 after (Select i) b c = record { interface = i; configured = c .configured; bits = c .bits }
 after Configure b c = record { interface = c .interface; configured = true; bits = c .bits }
 after Resize b c = record { interface = c .interface; configured = c .configured; bits = sizeOf width b }
 
--- the context at the factory start (01, "Switch-on"): no interface, unconfigured, N 1
+-- the context at the factory start: 01, "Session file", "00 seven times and FF three", so no interface, and "Switch-on", "FF FF FF
+-- without SPI (then configuration 0, N 1, unconfigured)"
 abbrev pub factory : Context
-factory = record { interface = NoInterface; configured = false; bits = 1 }
+factory = cleared
 
 -- the last of b and the bytes after it
 abbrev pub last : ℕ → List ℕ → ℕ

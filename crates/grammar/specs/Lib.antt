@@ -3,4 +3,4 @@ pub mod Scanner
 pub mod Verdict
 pub mod Calls
 pub mod Following
-pub mod Edges
+pub mod Lookups

@@ -5,37 +5,33 @@ use mathlib.Core.Path.{_≡_}
 use mathlib.Core.Bool.{Bool, true, false, cond}
 use mathlib.Core.List.{List, [], _∷_}
 use lib.Dec.{eqb}
+use Rattle.codes.specs.Codes.{noConfiguration, unknownCommand}
 use Rattle.grammar.specs.Grammar.{SPI, Context, Needs, Common, Selected, Configured, Effect, Command, commands, extendedCommands, selected, legal, count, after}
 pub use Rattle.grammar.specs.declared.Place.{Place}
 pub use Rattle.grammar.specs.declared.Place.the-variants.{Between, Extended, Inside}
 pub use Rattle.grammar.specs.declared.Scanner.{Scanner}
 pub use Rattle.grammar.specs.declared.Scanned.{Scanned}
 pub use Rattle.grammar.specs.declared.Scanned.the-variants.{Accepted, Rejected}
-pub use Rattle.grammar.specs.declared.Opening.{Opening}
-pub use Rattle.grammar.specs.declared.Opening.the-variants.{Unknown, Known, Extension}
 
 abbrev pub between : Context → Scanner
 between c = record { context = c; place = Between }
 
 -- THE CODE that the device returns for a command that is not legal: 40 for a want of configuration, else 80
 abbrev pub codeFor : Needs → Context → ℕ
-codeFor Common c = 0x80
-codeFor (Selected i) c = 0x80
-codeFor Configured c = cond (selected SPI c) 0x40 0x80
+codeFor Common c = unknownCommand
+codeFor (Selected i) c = unknownCommand
+codeFor Configured c = cond (selected SPI c) noConfiguration unknownCommand
 
--- WHAT A BYTE OPENS: the row of it in a table
+-- WHAT A BYTE OPENS: nothing that is known, a command, or 1D's second byte
+pub data Opening : Type 0 where
+  Unknown : Opening
+  Known : Command → Opening
+  Extension : Opening
+
+-- the row of it in a table
 abbrev pub rowOf : ℕ → List Command → Opening
 rowOf b [] = Unknown
 rowOf b (k ∷ ks) = cond (eqb b (k .code)) (Known k) (rowOf b ks)
-
-abbrev pub isKnown : Opening → Bool
-isKnown Unknown = false
-isKnown (Known k) = true
-isKnown Extension = false
-
--- what the row of a byte says, if the table has one
-abbrev pub RowSays : {A : Type 0} → List Command → ℕ → (Command → A) → A → Type 0
-RowSays table b part x = (k : Command) → rowOf b table ≡ Known k → x ≡ part k
 
 -- a byte between items, and a byte after 1D
 unfoldable pub openingOf : ℕ → Opening
@@ -52,7 +48,7 @@ going e zero b c = between (after e b c)
 going e (suc n) b c = record { context = c; place = Inside e n }
 
 abbrev pub opened : Opening → Context → ℕ → Scanned
-opened Unknown c b = Rejected 0x80
+opened Unknown c b = Rejected unknownCommand
 opened (Known k) c b = cond (legal (k .needs) c) (Accepted (going (k .effect) (count (k .operands) c) b c)) (Rejected (codeFor (k .needs) c))
 opened Extension c b = Accepted (record { context = c; place = Extended })
 

@@ -2,10 +2,8 @@
 ghost use mathlib.Core.Path.{_≡_};
 ghost use Rattle.grammar.specs.Grammar.{factory};
 ghost use Rattle.grammar.specs.Scanner.{between, scan};
-ghost use Rattle.grammar.specs.Following.{passing, followed, operandsOf, operandsIn};
+ghost use Rattle.grammar.specs.Following.{passing, followed, operandsIn};
 use crate::Context;
-use crate::Interface;
-use crate::Opening;
 use crate::Place;
 use crate::Scanned;
 use crate::Scanner;
@@ -16,11 +14,7 @@ use crate::scanning;
 pub fn start() -> Scanner
     ensures { λ r. ⌜ r ≡ between factory ⌝ }
 {
-    let context = Context {
-        interface: Interface::NoInterface,
-        configured: false,
-        bits: 1,
-    };
+    let context = crate::cleared();
     Scanner {
         context,
         place: Place::Between,
@@ -50,25 +44,9 @@ pub fn follow(from: Scanner, bytes: &[u8]) -> Scanner
     g
 }
 
-fn count(o: Opening, c: Context) -> u8
-    ensures { λ r. ⌜ r ≡ operandsOf o c ⌝ }
-{
-    match o {
-        Opening::Unknown => 0,
-        Opening::Known(k) => {
-            let operands = k.operands;
-            scanning::count_of(operands, c)
-        }
-        Opening::Extension => 1,
-    }
-}
-
 // How many operands a byte has in a context, after 1D or between items.
 pub fn operands(c: Context, b: u8, extended: bool) -> u8
     ensures { λ r. ⌜ r ≡ operandsIn c b extended ⌝ }
 {
-    if extended {
-        return count(rows::extension(b), c);
-    }
-    count(rows::opening(b), c)
+    rows::operands_of(c, b, extended)
 }

@@ -1,6 +1,7 @@
 // The grammar of command streams, and the judge that decides it.
 ghost use mathlib.Core.Path.{_≡_};
-ghost use Rattle.grammar.specs.Verdict.{atEnd, judgeOf};
+ghost use Rattle.grammar.specs.Grammar.{cleared};
+ghost use Rattle.grammar.specs.Verdict.{judgeOf};
 
 pub mod following;
 mod rows;
@@ -21,21 +22,6 @@ pub struct Context {
     pub bits: u8,
 }
 
-// What a command needs of the context: nothing (a common one), its interface selected, or SPI selected and configured.
-pub enum Needs {
-    Common,
-    Selected(Interface),
-    Configured,
-}
-
-// How many operand bytes a command takes: none, one, nine, or as many as a packet of N bits.
-pub enum Operands {
-    None,
-    One,
-    Nine,
-    Packet,
-}
-
 // What an item does to the context.
 pub enum Effect {
     Keep,
@@ -43,21 +29,6 @@ pub enum Effect {
     Select(Interface),
     Configure,
     Resize,
-}
-
-// A row of the command list.
-pub struct Command {
-    pub code: u8,
-    pub needs: Needs,
-    pub operands: Operands,
-    pub effect: Effect,
-}
-
-// What a byte opens where an item may begin: nothing that is known, a command, or 1D's second byte.
-pub enum Opening {
-    Unknown,
-    Known(Command),
-    Extension,
 }
 
 // Where a scanner stands: between items, after 1D, or inside an item with so many bytes to come after the next.
@@ -85,33 +56,45 @@ pub enum Verdict {
     Wrong(usize),
 }
 
-// The verdict on bytes that end where a scanner stands.
-fn at_end(p: Place) -> Verdict
-    ensures { λ r. ⌜ r ≡ atEnd p ⌝ }
+// No interface, unconfigured, N 1: the context after 00, and at the factory start.
+pub(crate) fn cleared() -> Context
+    ensures { λ r. ⌜ r ≡ cleared ⌝ }
 {
-    match p {
-        Place::Between => Verdict::Whole,
-        Place::Extended => Verdict::Open,
-        Place::Inside(_, _) => Verdict::Open,
+    Context {
+        interface: Interface::NoInterface,
+        configured: false,
+        bits: 1,
     }
 }
 
-// Judges bytes from a context: whole, open, or wrong at the first place that can't be continued.
+// Judges bytes from a context, item by item: whole, open, or wrong at the first place that can't be continued.
 pub fn judge(c: Context, bytes: &[u8]) -> Verdict
     ensures { λ r. ⌜ r ≡ judgeOf c (now (bytes .entry)) ⌝ }
 {
-    let mut g = Scanner {
-        context: c,
-        place: Place::Between,
-    };
+    let mut at = c;
+    let mut extended = false;
     let mut i = 0;
     while i < bytes.len() {
-        let Scanned::Accepted(h) = scanning::scan_byte(g, bytes[i]) else {
+        let b = bytes[i];
+        if !rows::is_legal(at, b, extended) {
             return Verdict::Wrong(i);
-        };
-        g = h;
-        i += 1;
+        }
+        if (b == 0x1D) & !extended {
+            extended = true;
+            i += 1;
+            continue;
+        }
+        // an operand may be any byte, and only an item's last can change the context
+        let n = rows::operands_of(at, b, extended) as usize;
+        if bytes.len() - i <= n {
+            return Verdict::Open;
+        }
+        at = scanning::context_after(rows::effect_of(b, extended), bytes[i + n], at);
+        extended = false;
+        i += n + 1;
     }
-    let p = g.place;
-    at_end(p)
+    if extended {
+        return Verdict::Open;
+    }
+    Verdict::Whole
 }

@@ -1,60 +1,104 @@
-// What the command list says of a byte.
+// What the command list says of a byte: after 1D, where `extended` is true, and between items.
 ghost use mathlib.Core.Path.{_≡_};
-ghost use Rattle.grammar.specs.Grammar.{commands};
-ghost use Rattle.grammar.specs.Scanner.{rowOf, isKnown, RowSays, openingOf, extensionOf};
-use crate::Command;
+ghost use Rattle.grammar.specs.Grammar.{numberOf, selected};
+ghost use Rattle.grammar.specs.Scanner.{openingOf};
+ghost use Rattle.grammar.specs.Following.{openingIn, operandsIn};
+ghost use Rattle.grammar.specs.Lookups.{accepts, needsConfigured, codeOf, effectOf};
+use crate::Context;
 use crate::Effect;
 use crate::Interface;
-use crate::Needs;
-use crate::Opening;
-use crate::Operands;
+use codes::NO_CONFIGURATION;
+use codes::UNKNOWN_COMMAND;
 
-// Whether a byte is a command with a row of its own; 1D has none.
-fn is_command(b: u8) -> bool
-    ensures { λ r. ⌜ r ≡ isKnown (rowOf b commands) ⌝ }
+fn needs_configured(b: u8) -> bool
+    ensures { λ r. ⌜ r ≡ needsConfigured (openingOf b) ⌝ }
 {
-    ((b < 0x1F) & (b != 0x1D))
-        | ((0x20 <= b) & (b < 0x28))
-        | ((0x40 <= b) & (b < 0x4D))
-        | ((0x60 <= b) & (b < 0x6B))
+    (b == 0x41) | (b == 0x44) | (b == 0x46) | (b == 0x4B) | (b == 0x4C)
 }
 
-// What a command needs of the context: its high bits name the interface, and five of SPI's need configured.
-fn needs_of(b: u8) -> Needs
-    ensures { λ r. ⌜ RowSays commands b (λ k. k .needs) r ⌝ }
+// Whether a byte may begin an item: 00 to 1E are common, the others are the interface's.
+fn may_begin(c: Context, b: u8) -> bool
+    ensures { λ r. ⌜ r ≡ accepts (openingOf b) c ⌝ }
 {
-    if b < 0x20 {
-        return Needs::Common;
+    if b < 0x1F {
+        return true;
     }
-    if b < 0x40 {
-        return Needs::Selected(Interface::I2C);
+    let at = c.interface;
+    match at {
+        Interface::NoInterface => false,
+        Interface::I2C => (0x20 <= b) & (b < 0x28),
+        Interface::SPI => (0x40 <= b) & (b < 0x4D) & (!needs_configured(b) | c.configured),
+        Interface::OneWire => (0x60 <= b) & (b < 0x6B),
     }
-    if 0x60 <= b {
-        return Needs::Selected(Interface::OneWire);
-    }
-    if (b == 0x41) | (b == 0x44) | (b == 0x46) | (b == 0x4B) | (b == 0x4C) {
-        return Needs::Configured;
-    }
-    Needs::Selected(Interface::SPI)
 }
 
-// A command's operands: one, nine, as many as a packet takes, or none.
-fn operands_of(b: u8) -> Operands
-    ensures { λ r. ⌜ RowSays commands b (λ k. k .operands) r ⌝ }
+// Whether a byte is legal in a context: 01's "common, or of its interface", and configured where it must be.
+pub(crate) fn is_legal(c: Context, b: u8, extended: bool) -> bool
+    ensures { λ r. ⌜ r ≡ accepts (openingIn b extended) c ⌝ }
 {
+    if extended {
+        return ((0x01 <= b) & (b < 0x04)) | ((0x08 <= b) & (b < 0x10));
+    }
+    may_begin(c, b)
+}
+
+fn number_of(i: Interface) -> u8
+    ensures { λ r. ⌜ r ≡ numberOf i ⌝ }
+{
+    match i {
+        Interface::NoInterface => 0x00,
+        Interface::I2C => 0x01,
+        Interface::SPI => 0x02,
+        Interface::OneWire => 0x03,
+    }
+}
+
+fn is_selected(i: Interface, c: Context) -> bool
+    ensures { λ r. ⌜ r ≡ selected i c ⌝ }
+{
+    let at = c.interface;
+    number_of(at) == number_of(i)
+}
+
+// The code that the device returns for a byte that is not legal.
+pub(crate) fn code_for(c: Context, b: u8, extended: bool) -> u8
+    ensures { λ r. ⌜ r ≡ codeOf (openingIn b extended) c ⌝ }
+{
+    if extended {
+        return UNKNOWN_COMMAND;
+    }
+    if needs_configured(b) & is_selected(Interface::SPI, c) {
+        return NO_CONFIGURATION;
+    }
+    UNKNOWN_COMMAND
+}
+
+// How many operands a byte has in a context; 1D's is its extended byte.
+pub(crate) fn operands_of(c: Context, b: u8, extended: bool) -> u8
+    ensures { λ r. ⌜ r ≡ operandsIn c b extended ⌝ }
+{
+    if extended {
+        if b == 0x0E {
+            return 1;
+        }
+        return 0;
+    }
     match b {
-        0x0B | 0x0D | 0x0F | 0x11 | 0x13 | 0x15 | 0x22 | 0x40 | 0x42 | 0x61 | 0x63 | 0x67 =>
-            Operands::One,
-        0x65 => Operands::Nine,
-        0x44 | 0x4C => Operands::Packet,
-        _ => Operands::None,
+        0x0B | 0x0D | 0x0F | 0x11 | 0x13 | 0x15 | 0x1D | 0x22 | 0x40 | 0x42 | 0x61 | 0x63 | 0x67 =>
+            1,
+        0x65 => 9,
+        0x44 | 0x4C => packet::bytes_for(c.bits),
+        _ => 0,
     }
 }
 
-// What a command does to the context.
-fn effect_of(b: u8) -> Effect
-    ensures { λ r. ⌜ RowSays commands b (λ k. k .effect) r ⌝ }
+// What a byte's item does to the context.
+pub(crate) fn effect_of(b: u8, extended: bool) -> Effect
+    ensures { λ r. ⌜ r ≡ effectOf (openingIn b extended) ⌝ }
 {
+    if extended {
+        return Effect::Keep;
+    }
     match b {
         0x00 => Effect::Clear,
         0x01 => Effect::Select(Interface::I2C),
@@ -64,45 +108,4 @@ fn effect_of(b: u8) -> Effect
         0x42 => Effect::Resize,
         _ => Effect::Keep,
     }
-}
-
-// What a byte opens between items.
-pub(crate) fn opening(b: u8) -> Opening
-    ensures { λ r. ⌜ r ≡ openingOf b ⌝ }
-{
-    if b == 0x1D {
-        return Opening::Extension;
-    }
-    if is_command(b) {
-        return Opening::Known(Command {
-            code: b,
-            needs: needs_of(b),
-            operands: operands_of(b),
-            effect: effect_of(b),
-        });
-    }
-    Opening::Unknown
-}
-
-// What a byte opens after 1D.
-pub(crate) fn extension(b: u8) -> Opening
-    ensures { λ r. ⌜ r ≡ extensionOf b ⌝ }
-{
-    if b == 0x0E {
-        return Opening::Known(Command {
-            code: b,
-            needs: Needs::Common,
-            operands: Operands::One,
-            effect: Effect::Keep,
-        });
-    }
-    if ((0x01 <= b) & (b < 0x04)) | ((0x08 <= b) & (b < 0x10)) {
-        return Opening::Known(Command {
-            code: b,
-            needs: Needs::Common,
-            operands: Operands::None,
-            effect: Effect::Keep,
-        });
-    }
-    Opening::Unknown
 }

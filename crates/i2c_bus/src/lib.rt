@@ -20,10 +20,10 @@ pub fn start(out: &mut [u8]) -> usize
     requires { ⌜ length (bytesOf i2cStart) ≤ length (now out) ⌝ }
     ensures { λ n. ⌜ Written (now (out .entry)) 0 (bytesOf i2cStart) (now (out .exit)) n ⌝ }
 {
-    let a = wire::put_action(out, 0, RELEASE, SDA, 0);
-    let b = wire::put_action(out, a, RELEASE, SCL, 0);
-    let c = wire::put_action(out, b, LOW, SDA, 0);
-    wire::put_action(out, c, LOW, SCL, 0)
+    let a = wire::put_action(out, RELEASE, SDA, 0);
+    let b = a + wire::put_action(&mut out[a..], RELEASE, SCL, 0);
+    let c = b + wire::put_action(&mut out[b..], LOW, SDA, 0);
+    c + wire::put_action(&mut out[c..], LOW, SCL, 0)
 }
 
 // 21: a stop. The caller shows that its actions fit.
@@ -31,42 +31,43 @@ pub fn stop(out: &mut [u8]) -> usize
     requires { ⌜ length (bytesOf i2cStop) ≤ length (now out) ⌝ }
     ensures { λ n. ⌜ Written (now (out .entry)) 0 (bytesOf i2cStop) (now (out .exit)) n ⌝ }
 {
-    let a = wire::put_action(out, 0, LOW, SDA, 0);
-    let b = wire::put_action(out, a, RELEASE, SCL, 0);
-    wire::put_action(out, b, RELEASE, SDA, 0)
+    let a = wire::put_action(out, LOW, SDA, 0);
+    let b = a + wire::put_action(&mut out[a..], RELEASE, SCL, 0);
+    b + wire::put_action(&mut out[b..], RELEASE, SDA, 0)
 }
 
 // A bit on SDA and a clock pulse.
-fn put_bit(out: &mut [u8], at: usize, bit: u8) -> usize
-    requires { ⌜ at + 12 ≤ length (now out) ⌝ }
-    ensures { λ next. ⌜ Written (now (out .entry)) at (bytesOf (i2cBit bit)) (now (out .exit)) next ⌝ }
+fn put_bit(out: &mut [u8], bit: u8) -> usize
+    requires { ⌜ 12 ≤ length (now out) ⌝ }
+    ensures { λ n. ⌜ Written (now (out .entry)) 0 (bytesOf (i2cBit bit)) (now (out .exit)) n ⌝ }
 {
     let verb = lines::verb_for(RELEASE, bit);
-    let a = wire::put_action(out, at, verb, SDA, 0);
-    let b = wire::put_action(out, a, RELEASE, SCL, 0);
-    wire::put_action(out, b, LOW, SCL, 0)
+    let a = wire::put_action(out, verb, SDA, 0);
+    let b = a + wire::put_action(&mut out[a..], RELEASE, SCL, 0);
+    b + wire::put_action(&mut out[b..], LOW, SCL, 0)
 }
 
 // SDA released and sampled within a clock pulse.
-fn put_sampled(out: &mut [u8], at: usize) -> usize
-    requires { ⌜ at + 16 ≤ length (now out) ⌝ }
-    ensures { λ next. ⌜ Written (now (out .entry)) at (bytesOf i2cSampled) (now (out .exit)) next ⌝ }
+fn put_sampled(out: &mut [u8]) -> usize
+    requires { ⌜ 16 ≤ length (now out) ⌝ }
+    ensures { λ n. ⌜ Written (now (out .entry)) 0 (bytesOf i2cSampled) (now (out .exit)) n ⌝ }
 {
-    let a = wire::put_action(out, at, RELEASE, SDA, 0);
-    let b = wire::put_action(out, a, RELEASE, SCL, 0);
-    let c = wire::put_action(out, b, wire::VERB_SAMPLE_LINE, SDA, 0);
-    wire::put_action(out, c, LOW, SCL, 0)
+    let a = wire::put_action(out, RELEASE, SDA, 0);
+    let b = a + wire::put_action(&mut out[a..], RELEASE, SCL, 0);
+    let c = b + wire::put_action(&mut out[b..], wire::VERB_SAMPLE_LINE, SDA, 0);
+    c + wire::put_action(&mut out[c..], LOW, SCL, 0)
 }
 
 // A byte's bits, high bit first.
 fn put_bits(out: &mut [u8], byte: u8) -> usize
     requires { ⌜ 0 + length (bytesOf (each i2cBit (byteBits byte))) ≤ length (now out) ⌝ }
-    ensures { λ next. ⌜ Written (now (out .entry)) 0 (bytesOf (each i2cBit (byteBits byte))) (now (out .exit)) next ⌝ }
+    ensures { λ n. ⌜ Written (now (out .entry)) 0 (bytesOf (each i2cBit (byteBits byte))) (now (out .exit)) n ⌝ }
 {
     let mut at: usize = 0;
     let mut i: u8 = 0;
     while i < 8 {
-        at = put_bit(out, at, (byte >> (7 - i)) % 2);
+        let n = put_bit(&mut out[at..], (byte >> (7 - i)) % 2);
+        at += n;
         i += 1;
     }
     at
@@ -78,18 +79,19 @@ pub fn write(out: &mut [u8], byte: u8) -> usize
     ensures { λ n. ⌜ Written (now (out .entry)) 0 (bytesOf (i2cWrite byte)) (now (out .exit)) n ⌝ }
 {
     let at = put_bits(out, byte);
-    put_sampled(out, at)
+    at + put_sampled(&mut out[at..])
 }
 
 // SDA sampled eight times.
 fn put_samples(out: &mut [u8]) -> usize
     requires { ⌜ 0 + length (bytesOf (each (λ _. i2cSampled) (zeros 8))) ≤ length (now out) ⌝ }
-    ensures { λ next. ⌜ Written (now (out .entry)) 0 (bytesOf (each (λ _. i2cSampled) (zeros 8))) (now (out .exit)) next ⌝ }
+    ensures { λ n. ⌜ Written (now (out .entry)) 0 (bytesOf (each (λ _. i2cSampled) (zeros 8))) (now (out .exit)) n ⌝ }
 {
     let mut at: usize = 0;
     let mut i: u8 = 0;
     while i < 8 {
-        at = put_sampled(out, at);
+        let n = put_sampled(&mut out[at..]);
+        at += n;
         i += 1;
     }
     at
@@ -101,5 +103,5 @@ pub fn read(out: &mut [u8], answer: u8) -> usize
     ensures { λ n. ⌜ Written (now (out .entry)) 0 (bytesOf (i2cRead answer)) (now (out .exit)) n ⌝ }
 {
     let at = put_samples(out);
-    put_bit(out, at, answer)
+    at + put_bit(&mut out[at..], answer)
 }

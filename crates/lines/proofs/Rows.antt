@@ -2,16 +2,16 @@
 -- after another. Assumes nothing.
 use mathlib.Core.Path.{_≡_, refl, sym, ap, subst, _∙_}
 use mathlib.Core.List.{List, [], _++_}
-use Prim.Native.Nat.{ℕ, suc, _+_, _≤_, _<_}
+use Prim.Native.Nat.{ℕ, suc, _+_, _-_, _≤_, _<_}
 use native.Mathlib.Nat.{add-zero}
 use native.Mathlib.Numerals.{add-one}
 use native.Mathlib.Omega.{arith}
-use lib.ListN.{length, getD, drop, drop-of-length-le, length-append}
+use lib.ListN.{length, getD, take, drop, drop-of-length-le, length-append}
 use lib.Seq.{drop-cons}
 use Rattle.wire.specs.Action.{Action, bytesOf}
 use Rattle.wire.specs.Buffer.{overwrite, Written}
 use Rattle.wire.proofs.Actions.{bytes-append}
-use Rattle.wire.proofs.Buffers.{overwrite-none, overwrite-length, overwrite-append, written-append}
+use Rattle.wire.proofs.Buffers.{overwrite-none, overwrite-length, overwrite-append, written-append, placed, room}
 use Rattle.lines.specs.Lines.{each}
 
 -- the bytes of the rows of a list's elements from place i on
@@ -35,17 +35,22 @@ owed-all f xs out at = record { size = refl; place = refl; bytes = refl }
 pub owed-at : {f : ℕ → List Action} {xs l m : List ℕ} {start at i k : ℕ} → i ≡ k → Owed f xs l start i m at → Owed f xs l start k m at
 owed-at {f} {xs} {l} {m} {start} {at} e o = subst (λ (j : ℕ). Owed f xs l start j m at) e o
 
--- the next row fits where all of them do
-pub owed-fits : (f : ℕ → List Action) (xs : List ℕ) {l m : List ℕ} {start at i x : ℕ} → Owed f xs l start i m at → i < length xs → getD xs i 0 ≡ x
-    → start + length (bytesOf (each f xs)) ≤ length l → at + length (bytesOf (f x)) ≤ length m
-owed-fits f xs {i = i} {x = x} o h q fit =
-    let e : length (rows f xs i) ≡ length (bytesOf (f x)) + length (rows f xs (i + 1)) = ap length (rows-turn f xs i x h q) ∙ length-append (bytesOf (f x)) (rows f xs (i + 1)) in
-    omega (arith, o .size, o .place, e, fit)
+-- where all rows fit, the place is not past the end
+pub owed-within : {f : ℕ → List Action} {xs l m : List ℕ} {start at i : ℕ} → Owed f xs l start i m at → start + length (bytesOf (each f xs)) ≤ length l → at ≤ length m
+owed-within o fit = omega (arith, o .size, o .place, fit)
 
--- a turn of the loop
-pub owed-turn : (f : ℕ → List Action) (xs : List ℕ) {l m n : List ℕ} {start at next i x : ℕ} → Owed f xs l start i m at → i < length xs → getD xs i 0 ≡ x
-    → Written m at (bytesOf (f x)) n next → Owed f xs l start (i + 1) n next
-owed-turn f xs {m = m} {n = n} {at = at} {i = i} {x = x} o h q w =
+-- .. and the next one fits in the part from there on
+pub owed-fits : (f : ℕ → List Action) (xs : List ℕ) {l m : List ℕ} {start at i x : ℕ} → Owed f xs l start i m at → i < length xs → getD xs i 0 ≡ x
+    → start + length (bytesOf (each f xs)) ≤ length l → length (bytesOf (f x)) ≤ length (take (length m - at) (drop at m))
+owed-fits f xs {m = m} {at = at} {i = i} {x = x} o h q fit =
+    let e : length (rows f xs i) ≡ length (bytesOf (f x)) + length (rows f xs (i + 1)) = ap length (rows-turn f xs i x h q) ∙ length-append (bytesOf (f x)) (rows f xs (i + 1)) in
+    room m at (length (bytesOf (f x))) (omega (arith, o .size, o .place, e, fit))
+
+-- a turn of the loop, whose writer was lent that part
+pub owed-turn : (f : ℕ → List Action) (xs : List ℕ) {l m n : List ℕ} {start at k i x : ℕ} → Owed f xs l start i m at → i < length xs → getD xs i 0 ≡ x
+    → Written (take (length m - at) (drop at m)) 0 (bytesOf (f x)) n k → Owed f xs l start (i + 1) (take at m ++ (n ++ drop (length m - at) (drop at m))) (at + k)
+owed-turn f xs {m = m} {at = at} {i = i} {x = x} o h q v =
+    let w = placed {m = m} {at = at} v in
     let b = bytesOf (f x) in
     let r = rows f xs (i + 1) in
     let s : rows f xs i ≡ b ++ r = rows-turn f xs i x h q in
@@ -53,11 +58,7 @@ owed-turn f xs {m = m} {n = n} {at = at} {i = i} {x = x} o h q w =
     record {
       size = ap length (w .bytes) ∙ overwrite-length m at b ∙ o .size;
       place = omega (arith, w .after, o .place, e);
-      bytes = ap (λ (k : ℕ). overwrite n k r) (w .after)
-          ∙ ap (λ (z : List ℕ). overwrite z (at + length b) r) (w .bytes)
-          ∙ overwrite-append m at b r
-          ∙ ap (overwrite m at) (sym s)
-          ∙ o .bytes;
+      bytes = (λ j. overwrite (w .bytes j) (w .after j) r) ∙ overwrite-append m at b r ∙ ap (overwrite m at) (sym s) ∙ o .bytes;
     }
 
 -- with no row left the loop has written them all
@@ -72,23 +73,29 @@ owed-none f xs {m = m} {at = at} {i = i} o h =
       after = sym (add-zero at) ∙ ap (λ (r : List ℕ). at + length r) (sym e) ∙ o .place;
     }
 
--- ONE AFTER ANOTHER
+-- ONE AFTER ANOTHER, the second in the part from the place after the first on
 
-pub then : {l m n xs ys : List ℕ} {at mid next : ℕ} → Written l at xs m mid → Written m mid ys n next → Written l at (xs ++ ys) n next
-then {l} {m} {n} {xs} {ys} {at} v w = written-append l at xs ys v w
+pub then : {l m n xs ys : List ℕ} {mid k : ℕ} → Written l 0 xs m mid → Written (take (length m - mid) (drop mid m)) 0 ys n k
+    → Written l 0 (xs ++ ys) (take mid m ++ (n ++ drop (length m - mid) (drop mid m))) (mid + k)
+then {l} {m} {n} {xs} {ys} {mid} v w = written-append l 0 xs ys v (placed {m = m} {at = mid} w)
 
-pub joined : (as′ bs : List Action) {l m n : List ℕ} {at mid next : ℕ} → Written l at (bytesOf as′) m mid → Written m mid (bytesOf bs) n next → Written l at (bytesOf (as′ ++ bs)) n next
+pub joined : (as′ bs : List Action) {l m n : List ℕ} {mid k : ℕ} → Written l 0 (bytesOf as′) m mid → Written (take (length m - mid) (drop mid m)) 0 (bytesOf bs) n k
+    → Written l 0 (bytesOf (as′ ++ bs)) (take mid m ++ (n ++ drop (length m - mid) (drop mid m))) (mid + k)
 joined as′ bs v w = rw (bytes-append as′ bs) (then v w)
 
 joined-length : (as′ bs : List Action) → length (bytesOf (as′ ++ bs)) ≡ length (bytesOf as′) + length (bytesOf bs)
 joined-length as′ bs = ap length (bytes-append as′ bs) ∙ length-append (bytesOf as′) (bytesOf bs)
 
--- where both fit, the first does, and after it the second
+-- where both fit, the first does, and after it the second, in the part from there on too
 pub first-fits : (as′ bs : List Action) {k : ℕ} → length (bytesOf (as′ ++ bs)) ≤ k → 0 + length (bytesOf as′) ≤ k
 first-fits as′ bs h = omega (arith, joined-length as′ bs, h)
 
-pub second-fits : (as′ bs : List Action) {l m : List ℕ} {mid : ℕ} → length (bytesOf (as′ ++ bs)) ≤ length l → Written l 0 (bytesOf as′) m mid → mid + length (bytesOf bs) ≤ length m
-second-fits as′ bs {l = l} h w = omega (arith, joined-length as′ bs, h, w .after, ap length (w .bytes) ∙ overwrite-length l 0 (bytesOf as′))
+pub second-within : (as′ bs : List Action) {l m : List ℕ} {mid : ℕ} → length (bytesOf (as′ ++ bs)) ≤ length l → Written l 0 (bytesOf as′) m mid → mid + length (bytesOf bs) ≤ length m
+second-within as′ bs {l = l} h w = omega (arith, joined-length as′ bs, h, w .after, ap length (w .bytes) ∙ overwrite-length l 0 (bytesOf as′))
+
+pub second-fits : (as′ bs : List Action) {l m : List ℕ} {mid : ℕ} → length (bytesOf (as′ ++ bs)) ≤ length l → Written l 0 (bytesOf as′) m mid
+    → length (bytesOf bs) ≤ length (take (length m - mid) (drop mid m))
+second-fits as′ bs {m = m} {mid = mid} h w = room m mid (length (bytesOf bs)) (second-within as′ bs h w)
 
 -- THE SAME BYTES UNDER ANOTHER NAME
 

@@ -37,7 +37,7 @@ pub fn put_reinit_high(out: &mut [u8], line: u8) -> usize
     ensures { λ n. ⌜ Written (now (out .entry)) 0 (bytesOf (reinit ++ (high line ∷ []))) (now (out .exit)) n ⌝ }
 {
     let at = put_reinit(out);
-    wire::put_action(out, at, HIGH, line, 0)
+    at + wire::put_action(&mut out[at..], HIGH, line, 0)
 }
 
 // A latch written, a wait, and the latch written again. The caller shows that these fit.
@@ -45,9 +45,9 @@ pub fn put_pulse(out: &mut [u8], line: u8, first: u8, unit: u8, wait: u8, last: 
     requires { ⌜ 12 ≤ length (now out) ⌝ }
     ensures { λ n. ⌜ Written (now (out .entry)) 0 (bytesOf (action setLatch line first ∷ action unit noLine wait ∷ action setLatch line last ∷ [])) (now (out .exit)) n ⌝ }
 {
-    let a = wire::put_action(out, 0, LATCH, line, first as u16);
-    let b = wire::put_action(out, a, unit, wire::NO_LINE, wait as u16);
-    wire::put_action(out, b, LATCH, line, last as u16)
+    let a = wire::put_action(out, LATCH, line, first as u16);
+    let b = a + wire::put_action(&mut out[a..], unit, wire::NO_LINE, wait as u16);
+    b + wire::put_action(&mut out[b..], LATCH, line, last as u16)
 }
 
 // PB7 driven low, a wait, and PB7 driven high. The caller shows that these fit.
@@ -55,7 +55,7 @@ pub fn put_pb7_pulse(out: &mut [u8], unit: u8, wait: u16) -> usize
     requires { ⌜ 12 ≤ length (now out) ⌝ }
     ensures { λ n. ⌜ Written (now (out .entry)) 0 (bytesOf (low pb7 ∷ action unit noLine wait ∷ high pb7 ∷ [])) (now (out .exit)) n ⌝ }
 {
-    let a = wire::put_action(out, 0, LOW, wire::LINE_PB7, 0);
-    let b = wire::put_action(out, a, unit, wire::NO_LINE, wait);
-    wire::put_action(out, b, HIGH, wire::LINE_PB7, 0)
+    let a = wire::put_action(out, LOW, wire::LINE_PB7, 0);
+    let b = a + wire::put_action(&mut out[a..], unit, wire::NO_LINE, wait);
+    b + wire::put_action(&mut out[b..], HIGH, wire::LINE_PB7, 0)
 }

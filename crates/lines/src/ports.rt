@@ -1,5 +1,5 @@
 // Direction and latch of the ports.
-ghost use Prim.Native.Nat.{_+_, _≤_};
+ghost use Prim.Native.Nat.{_≤_};
 ghost use mathlib.Core.List.{[], _∷_};
 ghost use lib.ListN.{length};
 ghost use Rattle.wire.specs.Action.{action, bytesOf, setDirection, setLatch};
@@ -7,12 +7,12 @@ ghost use Rattle.wire.specs.Buffer.{Written};
 ghost use Rattle.lines.specs.Lines.{portActions};
 
 // A port's direction and then its latch.
-fn put_port(out: &mut [u8], at: usize, port: u8, direction: u8, latch: u8) -> usize
-    requires { ⌜ at + 8 ≤ length (now out) ⌝ }
-    ensures { λ next. ⌜ Written (now (out .entry)) at (bytesOf (action setDirection port direction ∷ action setLatch port latch ∷ [])) (now (out .exit)) next ⌝ }
+fn put_port(out: &mut [u8], port: u8, direction: u8, latch: u8) -> usize
+    requires { ⌜ 8 ≤ length (now out) ⌝ }
+    ensures { λ n. ⌜ Written (now (out .entry)) 0 (bytesOf (action setDirection port direction ∷ action setLatch port latch ∷ [])) (now (out .exit)) n ⌝ }
 {
-    let a = wire::put_action(out, at, wire::VERB_DIRECTION, port, direction as u16);
-    wire::put_action(out, a, wire::VERB_LATCH, port, latch as u16)
+    let a = wire::put_action(out, wire::VERB_DIRECTION, port, direction as u16);
+    a + wire::put_action(&mut out[a..], wire::VERB_LATCH, port, latch as u16)
 }
 
 // Direction then latch, for B, C, D, at the start of the unused part of a lent buffer, for which the caller shows the room.
@@ -28,7 +28,7 @@ pub fn put_ports(
     requires { ⌜ length (bytesOf (portActions ddrb portb ddrc portc ddrd portd)) ≤ length (now out) ⌝ }
     ensures { λ n. ⌜ Written (now (out .entry)) 0 (bytesOf (portActions ddrb portb ddrc portc ddrd portd)) (now (out .exit)) n ⌝ }
 {
-    let c = put_port(out, 0, wire::LINE_PORT_B, ddrb, portb);
-    let d = put_port(out, c, wire::LINE_PORT_C, ddrc, portc);
-    put_port(out, d, wire::LINE_PORT_D, ddrd, portd)
+    let c = put_port(out, wire::LINE_PORT_B, ddrb, portb);
+    let d = c + put_port(&mut out[c..], wire::LINE_PORT_C, ddrc, portc);
+    d + put_port(&mut out[d..], wire::LINE_PORT_D, ddrd, portd)
 }

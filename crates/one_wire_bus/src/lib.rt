@@ -43,22 +43,28 @@ fn group_waits(unit: u16, a: u8, b: u8, c: u8) -> Waits
 }
 
 // An action on DQ and the wait after it.
-fn put_step(out: &mut [u8], at: usize, verb: u8, wait: u16) -> usize
-    requires { ⌜ at + 8 ≤ length (now out) ⌝ }
-    ensures { λ next. ⌜ Written (now (out .entry)) at (bytesOf (action verb dq 0 ∷ waits wait ∷ [])) (now (out .exit)) next ⌝ }
+fn put_step(out: &mut [u8], verb: u8, wait: u16) -> usize
+    requires { ⌜ 8 ≤ length (now out) ⌝ }
+    ensures { λ n. ⌜ Written (now (out .entry)) 0 (bytesOf (action verb dq 0 ∷ waits wait ∷ [])) (now (out .exit)) n ⌝ }
 {
-    let a = wire::put_action(out, at, verb, wire::LINE_DQ, 0);
-    wire::put_action(out, a, wire::VERB_WAIT_MICROSECONDS, wire::NO_LINE, wait)
+    let a = wire::put_action(out, verb, wire::LINE_DQ, 0);
+    a
+        + wire::put_action(
+            &mut out[a..],
+            wire::VERB_WAIT_MICROSECONDS,
+            wire::NO_LINE,
+            wait,
+        )
 }
 
 // A slot by its three waits and the verbs of its third and fifth action.
-fn put_slot(out: &mut [u8], at: usize, w: Waits, third: u8, fifth: u8) -> usize
-    requires { ⌜ at + 24 ≤ length (now out) ⌝ }
-    ensures { λ next. ⌜ Written (now (out .entry)) at (bytesOf (slot w (action third dq 0) (action fifth dq 0))) (now (out .exit)) next ⌝ }
+fn put_slot(out: &mut [u8], w: Waits, third: u8, fifth: u8) -> usize
+    requires { ⌜ 24 ≤ length (now out) ⌝ }
+    ensures { λ n. ⌜ Written (now (out .entry)) 0 (bytesOf (slot w (action third dq 0) (action fifth dq 0))) (now (out .exit)) n ⌝ }
 {
-    let a = put_step(out, at, wire::VERB_DRIVE_LOW, w.first);
-    let b = put_step(out, a, third, w.second);
-    put_step(out, b, fifth, w.third)
+    let a = put_step(out, wire::VERB_DRIVE_LOW, w.first);
+    let b = a + put_step(&mut out[a..], third, w.second);
+    b + put_step(&mut out[b..], fifth, w.third)
 }
 
 // The waits of the write group.
@@ -74,7 +80,7 @@ pub fn reset(out: &mut [u8], ts: [u8; TIMINGS]) -> usize
     ensures { λ n. ⌜ Written (now (out .entry)) 0 (bytesOf (sampleSlot (resetWaits ts))) (now (out .exit)) n ⌝ }
 {
     let w = group_waits(8, ts[0], ts[1], ts[2]);
-    put_slot(out, 0, w, RELEASE, SAMPLE)
+    put_slot(out, w, RELEASE, SAMPLE)
 }
 
 // The low n bits of a byte, low bit first, each in a slot that ends released.
@@ -86,7 +92,8 @@ fn put_bits(out: &mut [u8], w: Waits, n: u8, byte: u8) -> usize
     let mut i: u8 = 0;
     while i < n {
         let verb = lines::verb_for(RELEASE, (byte >> i) % 2);
-        at = put_slot(out, at, w, verb, RELEASE);
+        let k = put_slot(&mut out[at..], w, verb, RELEASE);
+        at += k;
         i += 1;
     }
     at
@@ -101,7 +108,7 @@ pub fn write(out: &mut [u8], ts: [u8; TIMINGS], n: u8, fifth: u8, byte: u8) -> u
     let w = write_waits(ts);
     let at = put_bits(out, w, n - 1, byte);
     let verb = lines::verb_for(RELEASE, (byte >> (n - 1)) % 2);
-    put_slot(out, at, w, verb, fifth)
+    at + put_slot(&mut out[at..], w, verb, fifth)
 }
 
 // Slots of the read group for n bits. The caller shows that their actions fit.
@@ -113,7 +120,8 @@ pub fn read(out: &mut [u8], ts: [u8; TIMINGS], n: u8) -> usize
     let mut at: usize = 0;
     let mut i: u8 = 0;
     while i < n {
-        at = put_slot(out, at, w, RELEASE, SAMPLE);
+        let k = put_slot(&mut out[at..], w, RELEASE, SAMPLE);
+        at += k;
         i += 1;
     }
     at

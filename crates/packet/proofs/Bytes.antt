@@ -114,7 +114,7 @@ number-low b d = go (decLe d 8)
         let e : 8 - d ≡ 0 = omega arith in
         rw (e, drop-of-length-le (byteBits b) {i = d} (omega (arith, length-byte b))) (sym (mod-one b))
 
-number-bits : (x : ℕ) → x < 256 → number 0 (byteBits x) ≡ x
+pub number-bits : (x : ℕ) → x < 256 → number 0 (byteBits x) ≡ x
 number-bits x h = number-low x 0 ∙ mod-eq-of-lt h
 
 -- a value of the type [u8; n] is the register of its own bits

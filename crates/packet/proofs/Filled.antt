@@ -98,8 +98,8 @@ received-at k n j first end high rs l h f e = rw (l, f, e) (sym (padded-slice k 
 -- THE LOOPS
 
 -- before the first turn nothing is to stand past the end
-pub fill-start : (k : ℕ) (bs : List ℕ) → [] ≡ drop k (register k bs)
-fill-start k bs = sym (drop-of-length-le (register k bs) {i = k} (omega (arith, length-register k bs)))
+pub fill-start : (k : ℕ) (q bs : List ℕ) → length q ≡ k → drop k q ≡ drop k (register k bs)
+fill-start k q bs e = drop-of-length-le q {i = k} (omega arith) ∙ sym (drop-of-length-le (register k bs) {i = k} (omega (arith, length-register k bs)))
 
 pub drop-set : (l : List ℕ) (i v : ℕ) → i < length l → drop i (set l i v) ≡ v ∷ drop (suc i) l
 drop-set l i v h =

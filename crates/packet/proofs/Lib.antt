@@ -4,4 +4,4 @@ pub mod Places
 pub mod Filled
 pub mod Moves
 pub mod Loads
-pub mod Edges
+pub mod Shifts

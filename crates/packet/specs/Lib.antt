@@ -1,3 +1,3 @@
 pub mod Register
 pub mod Packet
-pub mod Edges
+pub mod Shift

@@ -223,13 +223,13 @@ pub fn low_size(r: Register, n: u8) -> usize
     low_count(n)
 }
 
-// Writes the register's low bytes that hold n bits, lowest first, at a place of the unused part of a lent buffer, and
-// answers the place after them. The caller shows that they fit there.
-pub fn put_low(out: &mut [u8], at: usize, r: Register, n: u8) -> usize
-    requires { ⌜ at + length (lowBytes n r) ≤ length (now out) ⌝ }
-    ensures { λ next. ⌜ Written (now (out .entry)) at (lowBytes n r) (now (out .exit)) next ⌝ }
+// Writes the register's low bytes that hold n bits, lowest first, at the start of the unused part of a lent buffer, and answers
+// how many they are. The caller shows that they fit there.
+pub fn put_low(out: &mut [u8], r: Register, n: u8) -> usize
+    requires { ⌜ length (lowBytes n r) ≤ length (now out) ⌝ }
+    ensures { λ k. ⌜ Written (now (out .entry)) 0 (lowBytes n r) (now (out .exit)) k ⌝ }
 {
     let low = load(&r);
     let count = low_count(n);
-    wire::put_bytes(out, at, &low[..count])
+    wire::put_bytes(out, 0, &low[..count])
 }

@@ -1,13 +1,16 @@
 -- A number is of one refusal only. Assumes nothing.
 use Prim.Native.Nat.{ℕ, _<_}
 use mathlib.Core.Path.{_≡_, refl, sym, ap, _∙_}
-use mathlib.Core.List.{List, [], _∷_}
+use mathlib.Core.List.{_∷_}
 use native.Mathlib.Omega.{arith}
 use lib.ListN.{getD}
-use Rattle.refusals.specs.Refusals.{Refusal, Ranges, Samples, Actions, Replies, Header, Length, Passes, Kind, FaultBody, Size, Factory, Waits, numberOf}
+use Rattle.refusals.specs.Refusals.{Refusal, Ranges, Samples, Actions, Replies, Header, Length, Passes, Kind, FaultBody, Size, Factory, Waits, numberOf, rows, InOrder}
+
+pub in-order : InOrder
+in-order = refl
 
 refusalAt : ℕ → Refusal
-refusalAt n = getD (Ranges ∷ Ranges ∷ Samples ∷ Actions ∷ Replies ∷ Header ∷ Length ∷ Passes ∷ Kind ∷ FaultBody ∷ Size ∷ Factory ∷ Waits ∷ []) n Ranges
+refusalAt n = getD (Ranges ∷ rows) n Ranges
 
 number-back : (r : Refusal) → refusalAt (numberOf r) ≡ r
 unfolding refusalAt

@@ -1,6 +1,7 @@
 -- The refusals in 01's order (01, "Refusal numbers"): each with its number, and in the table's words.
 use Prim.Native.Nat.{ℕ}
 use Prim.Native.String.{String}
+use mathlib.Core.Path.{_≡_}
 use mathlib.Core.List.{List, [], _∷_, map}
 use lib.ListN.{getD}
 use Rattle.padding.specs.Padding.{bytes, blanks, padded}
@@ -20,6 +21,13 @@ numberOf FaultBody = 9
 numberOf Size = 10
 numberOf Factory = 11
 numberOf Waits = 12
+
+-- THEOREM (proofs/Numbers.antt, `in-order`): the numbers are those of the table's rows, from 1 on
+abbrev pub rows : List Refusal
+rows = Ranges ∷ Samples ∷ Actions ∷ Replies ∷ Header ∷ Length ∷ Passes ∷ Kind ∷ FaultBody ∷ Size ∷ Factory ∷ Waits ∷ []
+
+abbrev pub InOrder : Type 0
+InOrder = map numberOf rows ≡ 1 ∷ 2 ∷ 3 ∷ 4 ∷ 5 ∷ 6 ∷ 7 ∷ 8 ∷ 9 ∷ 10 ∷ 11 ∷ 12 ∷ []
 
 -- the words of numbers 1 to 12
 abbrev pub table : List String

@@ -1,3 +1,5 @@
 -- Laws that the proofs of this crate and of the crates above cite.
 pub mod Flags
 pub mod InRange
+pub mod Bits
+pub mod Protected

@@ -1,3 +1,4 @@
+pub mod Commands
 pub mod Cuts
 pub mod Statements
 pub mod Said

@@ -1,3 +1,3 @@
 pub mod Waveforms
-pub mod Counts
 pub mod Sensed
+pub mod Samples

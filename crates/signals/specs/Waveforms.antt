@@ -10,7 +10,7 @@ use Rattle.wire.specs.Action.{Action, action, release, driveHigh, samplePort, s
 use Rattle.wire.specs.Sample.{byteAt}
 use Rattle.lines.specs.Lines.{low, high, sampled, levels, byteOf, reinit}
 use Rattle.i2c_bus.specs.I2c.{i2cStart, i2cStop, i2cWrite, i2cRead}
-use Rattle.spi_bus.specs.Spi.{exchange}
+use Rattle.spi_bus.specs.Spi.{spiExchange}
 use Rattle.one_wire_bus.specs.OneWire.{resetWaits, writeWaits, readWaits, sampleSlot, wireWrite, wireRead}
 pub use Rattle.signals.specs.declared.Waveform.{Waveform}
 pub use Rattle.signals.specs.declared.Waveform.the-variants.{Still, Reinit, ReinitHigh, Line, Port, PortPulse, Pb7Pulse, SampleLine, SamplePort, Start, Stop, WriteI2c, ReadI2c, Exchange, ResetWire, WriteWire, WriteWireBit, WriteWireStrong, ReadWire, ReadWireBit}
@@ -50,7 +50,7 @@ waveOf p Stop ss s = quiet p i2cStop
 waveOf p (WriteI2c x) ss s = once p (i2cWrite x) ss s
 waveOf p (ReadI2c answer) ss s = giving p (i2cRead answer) 8 (byteOf true (levels ss s 8))
 waveOf p Exchange ss s = record {
-  actions = exchange p;
+  actions = spiExchange (bitsIn p) (p .config) (p .packet);
   used = bitsIn p;
   byte = 0;
   packet = register registerBytes (received width (highFirst (p .config)) (levels ss s (bitsIn p)));

@@ -9,7 +9,7 @@ ghost use Rattle.packet.specs.Register.{register};
 ghost use Rattle.packet.specs.Packet.{width, registerBytes, received};
 ghost use Rattle.registers.specs.Registers.{highFirst, bitsIn};
 ghost use Rattle.lines.specs.Lines.{levels, byteOf};
-ghost use Rattle.spi_bus.specs.Spi.{exchange};
+ghost use Rattle.spi_bus.specs.Spi.{spiExchange};
 ghost use Rattle.signals.specs.Waveforms.{waveOf};
 ghost use Rattle.signals.specs.Sensed.{senseOf};
 use packet::Register;
@@ -103,17 +103,18 @@ fn eight(kept: Register, actions: u8, samples: &[u8], from: usize, high: bool) -
 // What an exchange gives: the packet register with the N levels received.
 fn exchanged(page: Page, samples: &[u8], from: usize) -> Sensed
     requires { ⌜ (page .size < width) × (from ≤ length (now samples)) ⌝ }
-    ensures { λ r. ⌜ r ≡ record { used = bitsIn page; bytes = 4 * length (exchange page); byte = 0; packet = register registerBytes (received width (highFirst (page .config)) (levels (now (samples .entry)) from (bitsIn page))) } ⌝ }
+    ensures { λ r. ⌜ r ≡ record { used = bitsIn page; bytes = 4 * length (spiExchange (bitsIn page) (page .config) (page .packet)); byte = 0; packet = register registerBytes (received width (highFirst (page .config)) (levels (now (samples .entry)) from (bitsIn page))) } ⌝ }
 {
+    let r = page.packet;
     let n = page.size + 1;
     let high = page.config / 4 % 2 == 1;
     let used = n as usize;
-    let received = spi_bus::receive(samples, from, n, high);
+    let after = spi_bus::exchange(r, samples, from, n, high);
     Sensed {
         used,
         bytes: wire::ACTION_BYTES * (1 + 4 * used),
         byte: 0,
-        packet: received,
+        packet: after,
     }
 }
 
@@ -154,13 +155,14 @@ pub fn write(out: &mut [u8], page: Page, wave: Waveform, samples: &[u8], from: u
     requires { ⌜ (page .size < width) × (length (bytesOf ((waveOf page wave (now samples) from) .actions)) ≤ length (now out)) ⌝ }
     ensures { λ n. ⌜ Written (now (out .entry)) 0 (bytesOf ((waveOf page wave (now (samples .entry)) from) .actions)) (now (out .exit)) n ⌝ }
 {
+    let r = page.packet;
     let ts = page.timings;
     match wave {
         Waveform::Still => 0,
         Waveform::Reinit => lines::put_reinit(out),
         Waveform::ReinitHigh(line) => lines::put_reinit_high(out, line),
-        Waveform::Line { verb, line } => wire::put_action(out, 0, verb, line, 0),
-        Waveform::Port { verb, line, value } => wire::put_action(out, 0, verb, line, value as u16),
+        Waveform::Line { verb, line } => wire::put_action(out, verb, line, 0),
+        Waveform::Port { verb, line, value } => wire::put_action(out, verb, line, value as u16),
         Waveform::PortPulse {
             line,
             first,
@@ -169,13 +171,13 @@ pub fn write(out: &mut [u8], page: Page, wave: Waveform, samples: &[u8], from: u
             last,
         } => lines::put_pulse(out, line, first, unit, wait, last),
         Waveform::Pb7Pulse { unit, wait } => lines::put_pb7_pulse(out, unit, wait),
-        Waveform::SampleLine(line) => wire::put_action(out, 0, wire::VERB_SAMPLE_LINE, line, 0),
-        Waveform::SamplePort(line) => wire::put_action(out, 0, wire::VERB_SAMPLE_PORT, line, 0),
+        Waveform::SampleLine(line) => wire::put_action(out, wire::VERB_SAMPLE_LINE, line, 0),
+        Waveform::SamplePort(line) => wire::put_action(out, wire::VERB_SAMPLE_PORT, line, 0),
         Waveform::Start => i2c_bus::start(out),
         Waveform::Stop => i2c_bus::stop(out),
         Waveform::WriteI2c(x) => i2c_bus::write(out, x),
         Waveform::ReadI2c(answer) => i2c_bus::read(out, answer),
-        Waveform::Exchange => spi_bus::put_exchange(out, page),
+        Waveform::Exchange => spi_bus::put_exchange(out, r, page.size + 1, page.config),
         Waveform::ResetWire => one_wire_bus::reset(out, ts),
         Waveform::WriteWire(x) => one_wire_bus::write(out, ts, 8, wire::VERB_RELEASE, x),
         Waveform::WriteWireBit(x) => one_wire_bus::write(out, ts, 1, wire::VERB_RELEASE, x),

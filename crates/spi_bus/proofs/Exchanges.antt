@@ -2,18 +2,17 @@
 use mathlib.Core.Path.{_≡_, refl, ap, _∙_}
 use mathlib.Core.Bool.{Bool, true, false}
 use mathlib.Core.List.{List, [], _∷_}
-use Prim.Native.Nat.{ℕ, _+_, _*_, _<_, _≤_}
+use Prim.Native.Nat.{ℕ, _+_, _*_, _≤_}
 use native.Mathlib.Omega.{arith}
 use lib.ListN.{length, length-append, length-take}
 use Rattle.wire.specs.Action.{bytesOf}
 use Rattle.wire.proofs.Actions.{bytes-length}
 use Rattle.packet.specs.Register.{bits}
-use Rattle.packet.specs.Packet.{width, registerBytes, order, sent}
+use Rattle.packet.specs.Packet.{order, sent}
 use Rattle.packet.proofs.Places.{length-sent}
-use Rattle.registers.specs.Registers.{polarityOf, phaseOf, highFirst, bitsIn}
-use Rattle.registers.specs.declared.Page.{Page}
+use Rattle.registers.specs.Registers.{polarityOf, phaseOf, highFirst}
 use Rattle.lines.specs.Lines.{each}
-use Rattle.spi_bus.specs.Spi.{spiBit, exchange}
+use Rattle.spi_bus.specs.Spi.{spiBit, spiExchange}
 
 -- a bit exchanged is four actions in either phase
 four : (polarity : ℕ) (phase : Bool) (b : ℕ) → length (spiBit polarity phase b) ≡ 4
@@ -30,15 +29,14 @@ four-each polarity phase [] = refl
 four-each polarity phase (x ∷ xs) =
     omega (arith, length-append (spiBit polarity phase x) (each (spiBit polarity phase) xs), four polarity phase x, four-each polarity phase xs)
 
-pub exchange-length : (p : Page) → p .size < width → length (p .packet) ≡ registerBytes → 1 + 4 * bitsIn p ≡ length (exchange p)
-unfolding exchange
-exchange-length p h l =
-    let c = p .config in
-    let xs = sent (bitsIn p) (highFirst c) (p .packet) in
-    omega (arith, four-each (polarityOf c) (phaseOf c) xs, length-sent (bitsIn p) (highFirst c) (p .packet) (omega arith))
+pub exchange-length : (n config : ℕ) (r : List ℕ) → n ≤ 8 * length r → 1 + 4 * n ≡ length (spiExchange n config r)
+unfolding spiExchange
+exchange-length n config r h =
+    let xs = sent n (highFirst config) r in
+    omega (arith, four-each (polarityOf config) (phaseOf config) xs, length-sent n (highFirst config) r h)
 
-pub exchange-most : (p : Page) → length (exchange p) ≤ 1 + 4 * bitsIn p
-unfolding exchange
-exchange-most p =
-    let xs = sent (bitsIn p) (highFirst (p .config)) (p .packet) in
-    omega (arith, four-each (polarityOf (p .config)) (phaseOf (p .config)) xs, length-take (bitsIn p) (order (highFirst (p .config)) (bits (p .packet))))
+pub exchange-most : (n config : ℕ) (r : List ℕ) → length (spiExchange n config r) ≤ 1 + 4 * n
+unfolding spiExchange
+exchange-most n config r =
+    let xs = sent n (highFirst config) r in
+    omega (arith, four-each (polarityOf config) (phaseOf config) xs, length-take n (order (highFirst config) (bits r)))

@@ -1,16 +1,16 @@
-// The waveform of SPI, and the packet register that its samples give.
+// SPI: the waveform of an exchange, and the packet register after it.
 ghost use mathlib.Core.Path.{_≡_};
-ghost use Prim.Native.Nat.{_+_, _≤_, _<_};
+ghost use Prim.Native.Nat.{_≤_, _<_};
 ghost use lib.ListN.{length};
-ghost use Rattle.wire.specs.Action.{bytesOf};
+ghost use mathlib.Core.List.{_∷_};
+ghost use Rattle.wire.specs.Action.{bytesOf, sck};
 ghost use Rattle.wire.specs.Buffer.{Written};
-ghost use Rattle.packet.specs.Register.{register};
-ghost use Rattle.packet.specs.Packet.{width, registerBytes, sent, received};
-ghost use Rattle.lines.specs.Lines.{each, levels};
-ghost use Rattle.spi_bus.specs.Spi.{spiBit, exchange};
+ghost use Rattle.packet.specs.Packet.{width, sent};
+ghost use Rattle.packet.specs.Shift.{exchanged};
+ghost use Rattle.lines.specs.Lines.{driven, each, levels};
+ghost use Rattle.spi_bus.specs.Spi.{spiBit, spiExchange};
 use lines::readings;
 use packet::Register;
-use registers::Page;
 
 const SAMPLE: u8 = wire::VERB_SAMPLE_LINE;
 
@@ -23,79 +23,71 @@ const MOSI: u8 = wire::LINE_MOSI;
 const MISO: u8 = wire::LINE_MISO;
 
 // One bit exchanged: with CPHA 0 the sample stands before the clock's return, with CPHA 1 after it.
-fn put_bit(out: &mut [u8], at: usize, polarity: u8, phase: bool, bit: u8) -> usize
-    requires { ⌜ (at + 16 ≤ length (now out)) × ((polarity < 2) × (bit < 2)) ⌝ }
-    ensures { λ next. ⌜ Written (now (out .entry)) at (bytesOf (spiBit polarity phase bit)) (now (out .exit)) next ⌝ }
+fn put_bit(out: &mut [u8], polarity: u8, phase: bool, bit: u8) -> usize
+    requires { ⌜ (16 ≤ length (now out)) × ((polarity < 2) × (bit < 2)) ⌝ }
+    ensures { λ k. ⌜ Written (now (out .entry)) 0 (bytesOf (spiBit polarity phase bit)) (now (out .exit)) k ⌝ }
 {
     let away = lines::verb_for(HIGH, 1 - polarity);
     let back = lines::verb_for(HIGH, polarity);
     let data = lines::verb_for(HIGH, bit);
     if phase {
-        let a = wire::put_action(out, at, away, SCK, 0);
-        let b = wire::put_action(out, a, data, MOSI, 0);
-        let c = wire::put_action(out, b, back, SCK, 0);
-        return wire::put_action(out, c, SAMPLE, MISO, 0);
+        let a = wire::put_action(out, away, SCK, 0);
+        let b = a + wire::put_action(&mut out[a..], data, MOSI, 0);
+        let c = b + wire::put_action(&mut out[b..], back, SCK, 0);
+        return c + wire::put_action(&mut out[c..], SAMPLE, MISO, 0);
     }
-    let d = wire::put_action(out, at, data, MOSI, 0);
-    let e = wire::put_action(out, d, away, SCK, 0);
-    let f = wire::put_action(out, e, SAMPLE, MISO, 0);
-    wire::put_action(out, f, back, SCK, 0)
+    let d = wire::put_action(out, data, MOSI, 0);
+    let e = d + wire::put_action(&mut out[d..], away, SCK, 0);
+    let f = e + wire::put_action(&mut out[e..], SAMPLE, MISO, 0);
+    f + wire::put_action(&mut out[f..], back, SCK, 0)
 }
 
-// N bits exchanged: whole bytes, eight bits each, and then those that are left.
-fn put_bits(
-    out: &mut [u8],
-    at: usize,
-    r: Register,
-    n: u8,
-    high: bool,
-    polarity: u8,
-    phase: bool,
-) -> usize
-    requires { ⌜ (n ≤ width) × ((polarity < 2) × (at + length (bytesOf (each (spiBit polarity phase) (sent n high r))) ≤ length (now out))) ⌝ }
-    ensures { λ next. ⌜ Written (now (out .entry)) at (bytesOf (each (spiBit polarity phase) (sent n high r))) (now (out .exit)) next ⌝ }
+// SCK to CPOL, and then n bits exchanged: whole bytes, eight bits each, and those that are left.
+fn put_bits(out: &mut [u8], r: Register, n: u8, high: bool, polarity: u8, phase: bool) -> usize
+    requires { ⌜ (n ≤ width) × ((polarity < 2) × (length (bytesOf (driven sck polarity ∷ each (spiBit polarity phase) (sent n high r))) ≤ length (now out))) ⌝ }
+    ensures { λ k. ⌜ Written (now (out .entry)) 0 (bytesOf (driven sck polarity ∷ each (spiBit polarity phase) (sent n high r))) (now (out .exit)) k ⌝ }
 {
-    let mut next = at;
+    let mut at = wire::put_action(out, lines::verb_for(HIGH, polarity), SCK, 0);
     let mut i: u8 = 0;
     while 8 <= n - i {
         let byte = packet::byte_to_send(r, i, high);
         let mut j: u8 = 0;
         while j < 8 {
             let bit = packet::bit_of_byte(byte, j, high);
-            next = put_bit(out, next, polarity, phase, bit);
+            let k = put_bit(&mut out[at..], polarity, phase, bit);
+            at += k;
             j += 1;
         }
         i += 8;
     }
     while i < n {
         let bit = packet::bit_within(r, i, high);
-        next = put_bit(out, next, polarity, phase, bit);
+        let k = put_bit(&mut out[at..], polarity, phase, bit);
+        at += k;
         i += 1;
     }
-    next
+    at
 }
 
-// An exchange of N bits: SCK to CPOL, then the bits. The caller shows that the size register is in range and that the actions fit.
-pub fn put_exchange(out: &mut [u8], page: Page) -> usize
-    requires { ⌜ (page .size < width) × (length (bytesOf (exchange page)) ≤ length (now out)) ⌝ }
-    ensures { λ n. ⌜ Written (now (out .entry)) 0 (bytesOf (exchange page)) (now (out .exit)) n ⌝ }
+// The waveform of an exchange of n bits under a configuration. The caller shows that the register has so many bits and that
+// the actions fit.
+pub fn put_exchange(out: &mut [u8], r: Register, n: u8, config: u8) -> usize
+    requires { ⌜ (n ≤ width) × (length (bytesOf (spiExchange n config r)) ≤ length (now out)) ⌝ }
+    ensures { λ k. ⌜ Written (now (out .entry)) 0 (bytesOf (spiExchange n config r)) (now (out .exit)) k ⌝ }
 {
-    let r = page.packet;
-    let n = page.size + 1;
-    let phase = page.config % 2 == 1;
-    let polarity = page.config / 2 % 2;
-    let high = page.config / 4 % 2 == 1;
-    let at = wire::put_action(out, 0, lines::verb_for(HIGH, polarity), SCK, 0);
-    put_bits(out, at, r, n, high, polarity, phase)
+    let phase = config % 2 == 1;
+    let polarity = config / 2 % 2;
+    let high = config / 4 % 2 == 1;
+    put_bits(out, r, n, high, polarity, phase)
 }
 
-// The packet register after n levels were received: the lowest byte has the last eight in order, and so on upward.
+// The packet register after an exchange of n bits: the lowest byte has the last eight levels in order, and so on upward.
 // The caller shows that the register has so many bits and that the mark is not past the samples' end.
-pub fn receive(samples: &[u8], from: usize, n: u8, high: bool) -> Register
+pub fn exchange(r: Register, samples: &[u8], from: usize, n: u8, high: bool) -> Register
     requires { ⌜ (n ≤ width) × (from ≤ length (now samples)) ⌝ }
-    ensures { λ q. ⌜ q ≡ register registerBytes (received width high (levels (now (samples .entry)) from n)) ⌝ }
+    ensures { λ q. ⌜ q ≡ exchanged width high (levels (now (samples .entry)) from n) r ⌝ }
 {
-    let mut q = [0u8; packet::BYTES];
+    let mut q = r;
     let mut i: usize = packet::BYTES;
     let mut end = n;
     while 0 < i {

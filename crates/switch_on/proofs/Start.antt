@@ -1,8 +1,12 @@
 -- The factory start, by computation. Assumes nothing.
 use mathlib.Core.Path.{refl}
 use Rattle.switch_on.specs.Images.{isGood, usedOf}
-use Rattle.switch_on.specs.Start.{FactoryStart}
+use Rattle.switch_on.specs.Start.{FactoryStart, FactoryContext}
 
 pub factory-start : FactoryStart
 unfolding isGood usedOf
 factory-start = refl
+
+pub factory-context : FactoryContext
+unfolding isGood usedOf
+factory-context = refl

@@ -3,7 +3,9 @@ use mathlib.Core.Path.{_≡_}
 use mathlib.Core.List.{List, [], _∷_}
 use Prim.Native.Nat.{ℕ}
 use Rattle.packet.specs.Register.{zeros}
+use Rattle.grammar.specs.Grammar as grammar
 use Rattle.bridge.specs.Edges.{factory}
+use Rattle.bridge.specs.Views.{contextOf}
 use Rattle.bridge.specs.declared.Bridge.{Bridge}
 use Rattle.switch_on.specs.SwitchOn.{Device, onState}
 
@@ -20,3 +22,7 @@ FactoryStart = onState [] factoryImage device ≡ factory
 -- the bridge that a session starts with
 abbrev pub starting : Bridge
 starting = record { state = onState [] factoryImage device }
+
+-- THEOREM (proofs/Start.antt, `factory-context`): its context is the one that the grammar calls factory
+abbrev pub FactoryContext : Type 0
+FactoryContext = contextOf (starting .state) ≡ grammar.factory

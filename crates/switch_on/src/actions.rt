@@ -35,10 +35,10 @@ pub(crate) fn put(out: &mut [u8], page: Page) -> usize
         page.portd,
     );
     if page.flags % 2 == 1 {
-        return wire::put_action(out, at, wire::VERB_DRIVE_HIGH, wire::LINE_CS, 0);
+        return at + wire::put_action(&mut out[at..], wire::VERB_DRIVE_HIGH, wire::LINE_CS, 0);
     }
     if page.flags / 2 % 2 == 1 {
-        return wire::put_action(out, at, wire::VERB_DRIVE_HIGH, wire::LINE_SS, 0);
+        return at + wire::put_action(&mut out[at..], wire::VERB_DRIVE_HIGH, wire::LINE_SS, 0);
     }
     at
 }

@@ -115,6 +115,18 @@ pub written-after : (l : List ℕ) (mark : ℕ) {ys xs zs : List ℕ} {next : �
     → take mark l ++ (ys ++ drop (length l - mark) (drop mark l)) ≡ overwrite l mark zs
 written-after l mark {ys} {xs} w e = lent l mark 0 ys xs (w .bytes) ∙ (λ i. overwrite l (add-zero mark i) (e i))
 
+-- a writer that was lent the part from a place onward has written at that place
+pub placed : {m n ys : List ℕ} {at k : ℕ} → Written (take (length m - at) (drop at m)) 0 ys n k
+    → Written m at ys (take at m ++ (n ++ drop (length m - at) (drop at m))) (at + k)
+placed {m} {n} {ys} {at} w = record {
+  bytes = written-after m at w refl;
+  after = ap (λ (j : ℕ). at + j) (w .after ∙ zero-add (length ys));
+}
+
+-- what fits at a place fits in the part from there on
+pub room : (m : List ℕ) (at need : ℕ) → at + need ≤ length m → need ≤ length (take (length m - at) (drop at m))
+room m at need h = simp (length-take, length-drop) (omega arith)
+
 -- what fits after a mark fits in the part from there on
 pub part-start : (size mark need : ℕ) → fitsIn size mark need ≡ true → mark ≤ size
 part-start size mark need h = omega (arith, leb-true (mark + need) size h)

@@ -57,7 +57,7 @@ pub const NO_LINE: u8 = 0;
 // An action's size in bytes.
 pub const ACTION_BYTES: usize = 4;
 
-// Writes a row of bytes at a place of the unused part of a lent buffer, and answers the place after them.
+// Writes a row of bytes at a place of a lent buffer, and answers the place after them.
 // The caller shows that they fit there.
 pub fn put_bytes(out: &mut [u8], at: usize, row: &[u8]) -> usize
     requires { ⌜ at + length (now row) ≤ length (now out) ⌝ }
@@ -71,15 +71,15 @@ pub fn put_bytes(out: &mut [u8], at: usize, row: &[u8]) -> usize
     at + i
 }
 
-// Writes one action at a place of the unused part of a lent buffer, and answers the place after it.
-// The caller shows that its four bytes fit there.
-pub fn put_action(out: &mut [u8], at: usize, verb: u8, line: u8, value: u16) -> usize
-    requires { ⌜ at + 4 ≤ length (now out) ⌝ }
-    ensures { λ next. ⌜ Written (now (out .entry)) at (actionBytes (action verb line value)) (now (out .exit)) next ⌝ }
+// Writes one action at the start of the unused part of a lent buffer, and answers its size. The caller shows that its four
+// bytes fit there.
+pub fn put_action(out: &mut [u8], verb: u8, line: u8, value: u16) -> usize
+    requires { ⌜ 4 ≤ length (now out) ⌝ }
+    ensures { λ n. ⌜ Written (now (out .entry)) 0 (actionBytes (action verb line value)) (now (out .exit)) n ⌝ }
 {
     let low = (value % 256) as u8;
     let high = (value / 256 % 256) as u8;
-    put_bytes(out, at, &[verb, line, low, high])
+    put_bytes(out, 0, &[verb, line, low, high])
 }
 
 // Whether so many bytes fit after a mark; a mark past the end leaves room for nothing, not even for no byte.

@@ -1,18 +1,20 @@
 -- The loop's invariant: the course over all bytes is the course from here over those that are left.
 use borrow.Author.Needs.{needs}
-use mathlib.Core.Path.{refl}
-use Prim.Native.Nat.{_≤_, _-_}
+use borrow.Author.Tests.{not-true, not-false}
+use mathlib.Core.Path.{refl, sym, _∙_}
+use Prim.Native.Nat.{_≤_, _-_, _+_}
 use native.Mathlib.Omega.{arith}
-use lib.ListN.{length}
-use Rattle.grammar.proofs.Scans.{Read, read-next, read-wrong, read-end}
+use lib.ListN.{length, getD}
+use Rattle.grammar.specs.Scanner.{between}
+use Rattle.grammar.proofs.Scans.{Read, standing, turn-wrong, turn-extension, turn-open, turn-item, turn-end}
 use Rattle.grammar.proofs.judge.Statement.{statement}
 use Rattle.grammar.proofs.judge.Tie as tie
 
 abbrev Inv-loop : tie.InvT-loop
-Inv-loop bytes g₀ i₀ g i = (i ≤ length bytes) × Read bytes g₀ g i
+Inv-loop bytes at₀ extended₀ i₀ at extended i = (i ≤ length bytes) × Read bytes (between at₀) (standing at extended) i
 
 abbrev μ-loop : tie.MeasureT-loop
-μ-loop bytes g₀ i₀ g i = length bytes - i
+μ-loop bytes at₀ extended₀ i₀ at extended i = length bytes - i
 
 pub judge-spec : {M : Type 1} → statement M
 judge-spec =
@@ -23,21 +25,45 @@ judge-spec =
     (λ c. (omega arith, refl))
     (λ c. search needs)
     (λ c κs. search needs)
+    (λ c.
+    let l = c .before in
+    let t = l .before .before in
+    let s = t .before .loop in
+    turn-wrong (t .before .before .before .args .bytes .now) _ (s .at) _ (s .extended) (s .i) (t .loop-test .taken) refl (s .inv .1) (sym (l .is-legal .ensures) ∙ not-true _ (c .if1 .taken)))
     (λ c. search needs)
     (λ c. search needs)
     (λ c.
-    let b = c .before .before in
-    let m = b .before .before .before in
-    read-wrong (m .before .before .args .bytes .now) _ (m .loop .g) (m .loop .i) _ _ (search needs) (b .scan-byte .ensures) (c .enum-told .given .1) (m .loop .inv .1))
-    (λ c. search needs)
-    (λ c. search needs)
-    (λ c.
-    let b = c .before .before .before in
-    let m = b .before .before .before in (
+    let t = c .before .before .before .before in
+    let s = t .before .loop in (
       search needs,
-      read-next (m .before .before .args .bytes .now) _ (m .loop .g) _ (m .loop .i) _ (search needs) (b .scan-byte .ensures) (c .before .h .given .1) (m .loop .inv .1),
+      turn-extension (t .before .before .before .args .bytes .now) _ (s .at) _ (s .extended) (s .i) (t .loop-test .taken) refl (s .inv .1) (c .if2 .taken),
     ))
     (λ c κs. search needs)
+    (λ c. search needs)
+    (λ c. search needs)
     (λ c.
-    let m = c .before .before in
-    read-end (m .before .before .args .bytes .now) _ (m .loop .g) (m .loop .i) _ (search needs) (c .at-end .ensures) (m .loop .inv .1)))
+    let n = c .before in
+    let x = n .before in
+    let l = x .before .before in
+    let t = l .before .before in
+    let s = t .before .loop in
+    turn-open (t .before .before .before .args .bytes .now) _ (s .at) _ (s .extended) (s .i) (t .loop-test .taken) refl (s .inv .1) _ (sym (l .is-legal .ensures) ∙ not-false _ (x .before .if1 .left)) (x .if2 .left) (n .operands-of .ensures) (omega arith))
+    (λ c κs. search needs)
+    (λ c. search needs)
+    (λ c. search needs)
+    (λ c κs. search needs)
+    (λ c. search needs)
+    (λ c. search needs)
+    (λ c. search needs)
+    (λ c.
+    let e = c .before .before in
+    let n = e .before .before in
+    let x = n .before in
+    let l = x .before .before in
+    let t = l .before .before in
+    let s = t .before .loop in (
+      search needs,
+      turn-item (t .before .before .before .args .bytes .now) _ (s .at) _ (s .extended) (s .i) (t .loop-test .taken) refl (s .inv .1) _ _ _ (sym (l .is-legal .ensures) ∙ not-false _ (x .before .if1 .left)) (x .if2 .left) (n .operands-of .ensures) (e .effect-of .ensures) (omega arith) (c .context-after .ensures),
+    ))
+    (λ c. let m = c .before .before in turn-end (m .before .before .args .bytes .now) _ (m .loop .at) (m .loop .extended) _ (m .loop .i) (search needs) (c .if4 .taken) (m .loop .inv .1))
+    (λ c. let m = c .before .before in turn-end (m .before .before .args .bytes .now) _ (m .loop .at) (m .loop .extended) _ (m .loop .i) (search needs) (c .if4 .left) (m .loop .inv .1)))

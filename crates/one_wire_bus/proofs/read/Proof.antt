@@ -5,11 +5,12 @@ use mathlib.Core.List.{List}
 use Prim.Native.Nat.{ℕ, _-_, _≤_}
 use native.Mathlib.Nat.{zero-add}
 use native.Mathlib.Omega.{arith}
+use lib.ListN.{length}
 use Rattle.wire.specs.Action.{Action, bytesOf}
 use Rattle.packet.specs.Register.{zeros}
 use Rattle.one_wire_bus.specs.OneWire.{sampleSlot, wireRead}
 use Rattle.one_wire_bus.specs.declared.Waits.{Waits}
-use Rattle.lines.proofs.Rows.{Owed, owed-all, owed-fits, owed-turn, owed-none, same-written, same-room}
+use Rattle.lines.proofs.Rows.{Owed, owed-all, owed-within, owed-fits, owed-turn, owed-none, same-written, same-room}
 use Rattle.one_wire_bus.proofs.Slots.{length-zeros}
 use Rattle.one_wire_bus.proofs.read.Statement.{statement}
 use Rattle.one_wire_bus.proofs.read.Tie as tie
@@ -18,7 +19,7 @@ abbrev row : Waits → ℕ → List Action
 row w x = sampleSlot w
 
 abbrev Inv-loop : tie.InvT-loop
-Inv-loop out₀ n w at₀ i₀ out at i = (i ≤ n) × Owed (row w) (zeros n) out₀ 0 i out at
+Inv-loop out₀ n w at₀ i₀ out at i = (i ≤ n) × (at ≤ length out) × Owed (row w) (zeros n) out₀ 0 i out at
 
 abbrev μ-loop : tie.MeasureT-loop
 μ-loop out₀ n w at₀ i₀ out at i = n - i
@@ -34,12 +35,16 @@ read-spec =
     (λ c. search needs)
     (λ c. search needs)
     (λ c κs. search needs)
-    (λ c. (omega arith, owed-all _ _ _ _))
+    (λ c. (omega arith, omega arith, owed-all _ _ _ _))
+    (λ c. search needs)
+    (λ c. search needs)
+    (λ c. search needs)
     (λ c κs.
     let m = c .before .before in
     let g = m .before in
     let s = g .before .before in
-    owed-fits (row (g .group-waits .result)) (zeros (s .args .n)) (m .loop .inv .1) (omega (arith, length-zeros (s .args .n))) refl (rw zero-add (same-room (ap (λ (w : Waits). bytesOf (wireRead w (s .args .n))) (sym (g .group-waits .ensures))) (s .pre))))
+    owed-fits (row (g .group-waits .result)) (zeros (s .args .n)) (m .loop .inv .2) (omega (arith, length-zeros (s .args .n))) refl (rw zero-add (same-room (ap (λ (w : Waits). bytesOf (wireRead w (s .args .n))) (sym (g .group-waits .ensures))) (s .pre))))
+    (λ c. search needs)
     (λ c. search needs)
     (λ c. search needs)
     (λ c.
@@ -47,10 +52,11 @@ read-spec =
     let m = p .before .before .before in
     let g = m .before in
     let s = g .before .before in
-    (omega arith, owed-turn (row (g .group-waits .result)) (zeros (s .args .n)) (m .loop .inv .1) (omega (arith, length-zeros (s .args .n))) refl (p .put-slot .ensures)))
-    (λ c. c .before .loop .inv .1 .size)
+    let o = owed-turn (row (g .group-waits .result)) (zeros (s .args .n)) (m .loop .inv .2) (omega (arith, length-zeros (s .args .n))) refl (p .put-slot .ensures) in
+    (omega arith, owed-within o (rw zero-add (same-room (ap (λ (w : Waits). bytesOf (wireRead w (s .args .n))) (sym (g .group-waits .ensures))) (s .pre))), o))
+    (λ c. c .before .loop .inv .2 .size)
     (λ c.
     let m = c .before in
     let g = m .before in
     let s = g .before .before in
-    same-written (ap (λ (w : Waits). bytesOf (wireRead w (s .args .n))) (sym (g .group-waits .ensures))) (owed-none (row (g .group-waits .result)) _ (m .loop .inv .1) (omega (arith, length-zeros (s .args .n))))))
+    same-written (ap (λ (w : Waits). bytesOf (wireRead w (s .args .n))) (sym (g .group-waits .ensures))) (owed-none (row (g .group-waits .result)) _ (m .loop .inv .2) (omega (arith, length-zeros (s .args .n))))))

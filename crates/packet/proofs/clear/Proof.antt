@@ -1,10 +1,10 @@
 -- The loop's invariant: from the place on the bytes are those of the cleared register.
 use borrow.Author.Needs.{needs}
-use mathlib.Core.Path.{_≡_, _∙_}
+use mathlib.Core.Path.{_≡_, refl, _∙_}
 use Prim.Native.Nat.{_-_, _*_, _≤_}
 use native.Mathlib.Omega.{arith}
 use lib.ListN.{length, drop, length-set}
-use Rattle.packet.specs.Register.{bits}
+use Rattle.packet.specs.Register.{bits, zeros}
 use Rattle.packet.specs.Packet.{width, registerBytes, kept, cleared}
 use Rattle.packet.proofs.Bytes.{length-register}
 use Rattle.packet.proofs.Filled.{kept-at, fill-start, fill-turn}
@@ -23,7 +23,7 @@ clear-spec =
     (tie.spec
     Inv-loop
     μ-loop
-    (λ c. (omega arith, search needs, omega arith, fill-start registerBytes (kept width (c .args .n) (bits (c .args .t1)))))
+    (λ c. (omega arith, search needs, omega arith, fill-start registerBytes (zeros registerBytes) (kept width (c .args .n) (bits (c .args .t1))) refl))
     (λ c. search needs)
     (λ c. search needs)
     (λ c κs. search needs)

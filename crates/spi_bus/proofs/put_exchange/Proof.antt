@@ -1,41 +1,15 @@
--- The clock at rest, and then the bits.
+-- The configuration's bits are the definition's.
 use borrow.Author.Needs.{needs}
-use mathlib.Core.List.{List, [], _∷_}
 use native.Mathlib.Omega.{arith}
-use Rattle.wire.specs.Action.{Action, sck}
-use Rattle.packet.specs.Packet.{sent}
-use Rattle.registers.specs.declared.Page.{Page}
-use Rattle.registers.specs.Registers.{polarityOf, phaseOf, highFirst, bitsIn}
-use Rattle.lines.specs.Lines.{driven, each}
-use Rattle.spi_bus.specs.Spi.{spiBit, exchange}
-use Rattle.lines.proofs.Rows.{joined, first-fits, second-fits}
+use Rattle.spi_bus.specs.Spi.{spiExchange}
 use Rattle.spi_bus.proofs.put_exchange.Statement.{statement}
 use Rattle.spi_bus.proofs.put_exchange.Tie as tie
 
--- the clock at rest, and the bits
-abbrev clock : Page → List Action
-clock p = driven sck (polarityOf (p .config)) ∷ []
-
-abbrev row : Page → List Action
-row p = each (spiBit (polarityOf (p .config)) (phaseOf (p .config))) (sent (bitsIn p) (highFirst (p .config)) (p .packet))
-
 pub put-exchange-spec : {M : Type 1} → statement M
-unfolding exchange
+unfolding spiExchange
 put-exchange-spec =
     tie.close
     (tie.spec
+    (λ c κs. let s = c .before .before in (s .pre .0, (omega arith, s .pre .1)))
     (λ c. search needs)
-    (λ c κs. search needs)
-    (λ c κs.
-    let s = c .before .before .before .before .before .before .before .before in
-    first-fits (clock (s .args .page)) (row (s .args .page)) (s .pre .1))
-    (λ c κs.
-    let p = c .before .before .before in
-    let s = p .before .before .before .before .before .before .before .before .before in
-    (omega (arith, s .pre .0), (omega arith, second-fits (clock (s .args .page)) (row (s .args .page)) (s .pre .1) (rw (p .before .verb-for .ensures) at (p .put-action .ensures)))))
-    (λ c. search needs)
-    (λ c.
-    let q = c .before .before in
-    let p = q .before .before .before .before in
-    let s = p .before .before .before .before .before .before .before .before .before in
-    joined (clock (s .args .page)) (row (s .args .page)) (rw (p .before .verb-for .ensures) at (p .put-action .ensures)) (q .put-bits .ensures)))
+    (λ c. c .before .before .put-bits .ensures))

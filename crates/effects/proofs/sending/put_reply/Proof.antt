@@ -1,7 +1,7 @@
 -- Reply by reply, its bytes.
 use borrow.Author.Needs.{needs}
 use native.Mathlib.Omega.{arith}
-use Rattle.wire.proofs.Buffers.{written-none, written-append}
+use Rattle.wire.proofs.Buffers.{written-none, written-append, placed}
 use Rattle.effects.proofs.sending.put_reply.Statement.{statement}
 use Rattle.effects.proofs.sending.put_reply.Tie as tie
 
@@ -32,7 +32,11 @@ put-reply-spec =
     (λ c. search needs)
     (λ c. search needs)
     (λ c κs. omega (arith, rw (c .before .before .before .before .reply3 .given .1) at (c .before .before .before .before .before .before .before .before .pre .1)))
+    (λ c. omega (arith, rw (c .before .before .before .before .before .before .before .reply3 .given .1) at (c .before .before .before .before .before .before .before .before .before .before .before .pre .1)))
+    (λ c. omega (arith, rw (c .before .before .before .before .before .before .before .reply3 .given .1) at (c .before .before .before .before .before .before .before .before .before .before .before .pre .1)))
+    (λ c. omega (arith, rw (c .before .before .before .before .before .before .before .reply3 .given .1) at (c .before .before .before .before .before .before .before .before .before .before .before .pre .1)))
     (λ c κs. omega (arith, rw (c .before .before .before .before .before .before .before .before .reply3 .given .1) at (c .before .before .before .before .before .before .before .before .before .before .before .before .pre .1)))
+    (λ c. omega (arith, c .before .before .put-low2 .ensures .after, rw (c .before .before .before .before .before .before .before .before .before .before .before .reply3 .given .1) at (c .before .before .before .before .before .before .before .before .before .before .before .before .before .before .before .pre .1)))
     (λ c. rw (c .enum-told .given .1) (written-none _ 0))
     (λ c. search needs)
     (λ c. rw (c .before .before .before .before .before .before .reply .given .1) (c .before .before .put-bytes .ensures))
@@ -49,4 +53,4 @@ put-reply-spec =
     (λ c. search needs)
     (λ c. rw (c .before .before .before .before .before .enum-told6 .given .1) (c .before .before .put-low .ensures))
     (λ c. search needs)
-    (λ c. rw (c .before .before .before .before .before .before .before .before .before .before .before .reply3 .given .1) (written-append _ _ _ _ (c .before .before .before .before .before .before .put-bytes5 .ensures) (c .before .before .put-low2 .ensures))))
+    (λ c. rw (c .before .before .before .before .before .before .before .before .before .before .before .reply3 .given .1) (written-append _ _ _ _ (c .before .before .before .before .before .before .put-bytes5 .ensures) (placed (c .before .before .put-low2 .ensures)))))

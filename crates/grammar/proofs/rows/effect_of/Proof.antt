@@ -1,35 +1,46 @@
--- At each row's code the arms give that row's effect.
+-- At a byte that an arm names its row is computed; at the others, over all bytes.
 use Prim.Native.Nat.{ℕ}
-use mathlib.Core.Path.{_≡_, refl, sym, ap}
-use mathlib.Core.Bool.{cond}
-use mathlib.Core.List.{map}
+use mathlib.Core.Path.{_≡_, refl}
+use mathlib.Core.Bool.{Bool, cond}
+use mathlib.Core.List.{[], _∷_}
+use borrow.Author.Needs.{needs}
 use borrow.Author.Tests.{ne-eqb}
-use lib.Dec.{eqb}
-use Rattle.grammar.specs.Grammar.{I2C, SPI, OneWire, Effect, Keep, Clear, Select, Configure, Resize, Command, commands}
-use Rattle.grammar.proofs.Lookups.{row-says}
+use Rattle.grammar.specs.Grammar.{Effect, Keep, commands, extendedCommands}
+use Rattle.grammar.specs.Scanner.{openingOf, extensionOf}
+use Rattle.grammar.specs.Lookups.{effectOf}
+use Rattle.grammar.proofs.Lookups.{values, byte-fact, anyOf, other}
 use Rattle.grammar.proofs.rows.effect_of.Statement.{statement}
 use Rattle.grammar.proofs.rows.effect_of.Tie as tie
 
-abbrev effectBy : ℕ → Effect
-effectBy b =
-    cond (eqb b 0x00) Clear
-    (cond (eqb b 0x01) (Select I2C) (cond (eqb b 0x02) (Select SPI) (cond (eqb b 0x03) (Select OneWire) (cond (eqb b 0x40) Configure (cond (eqb b 0x42) Resize Keep)))))
+abbrev first : ℕ → Effect
+first b = effectOf (openingOf b)
 
-computed : map (λ (k : Command). effectBy (k .code)) commands ≡ map (λ (k : Command). k .effect) commands
-unfolding commands
+extended-computed : values (λ (b : ℕ). Keep) 256 0 ≡ values (λ (b : ℕ). effectOf (extensionOf b)) 256 0
+unfolding extensionOf extendedCommands
+extended-computed = refl
+
+abbrev named : ℕ → Bool
+named b = anyOf b (0x00 ∷ 0x01 ∷ 0x02 ∷ 0x03 ∷ 0x40 ∷ 0x42 ∷ [])
+
+computed : values (λ (b : ℕ). cond (named b) (first b) Keep) 256 0 ≡ values first 256 0
+unfolding openingOf commands
 computed = refl
 
 pub effect-of-spec : {M : Type 1} → statement M
+unfolding openingOf commands
 effect-of-spec =
     tie.close
     (tie.spec
-    (λ c. row-says effectBy (λ k. k .effect) computed (c .before .args .b) _ (sym (ap effectBy (c .match .keys1))))
-    (λ c. row-says effectBy (λ k. k .effect) computed (c .before .args .b) _ (sym (ap effectBy (c .match .keys2))))
-    (λ c. row-says effectBy (λ k. k .effect) computed (c .before .args .b) _ (sym (ap effectBy (c .match .keys3))))
-    (λ c. row-says effectBy (λ k. k .effect) computed (c .before .args .b) _ (sym (ap effectBy (c .match .keys4))))
-    (λ c. row-says effectBy (λ k. k .effect) computed (c .before .args .b) _ (sym (ap effectBy (c .match .keys5))))
-    (λ c. row-says effectBy (λ k. k .effect) computed (c .before .args .b) _ (sym (ap effectBy (c .match .keys6))))
+    (λ c. rw (c .if1 .taken) (byte-fact (λ (b : ℕ). Keep) (λ (b : ℕ). effectOf (extensionOf b)) extended-computed (c .before .args .b) (search needs)))
+    (λ c. rw (c .before .if1 .left, c .match .keys1))
+    (λ c. rw (c .before .if1 .left, c .match .keys2))
+    (λ c. rw (c .before .if1 .left, c .match .keys3))
+    (λ c. rw (c .before .if1 .left, c .match .keys4))
+    (λ c. rw (c .before .if1 .left, c .match .keys5))
+    (λ c. rw (c .before .if1 .left, c .match .keys6))
     (λ c.
+    let b = c .before .before .args .b in
     let rest = c .match .rest in
-    row-says effectBy (λ k. k .effect) computed (c .before .args .b) _
-    (simp (ne-eqb _ _ (rest .0 .0 .0 .0 .0 .1), ne-eqb _ _ (rest .0 .0 .0 .0 .1), ne-eqb _ _ (rest .0 .0 .0 .1), ne-eqb _ _ (rest .0 .0 .1), ne-eqb _ _ (rest .0 .1), ne-eqb _ _ (rest .1)))))
+    rw (c .before .if1 .left)
+    (other first Keep named computed b (search needs)
+    (simp (ne-eqb _ _ (rest .0 .0 .0 .0 .0 .1), ne-eqb _ _ (rest .0 .0 .0 .0 .1), ne-eqb _ _ (rest .0 .0 .0 .1), ne-eqb _ _ (rest .0 .0 .1), ne-eqb _ _ (rest .0 .1), ne-eqb _ _ (rest .1))))))

@@ -1,0 +1,34 @@
+-- For the contracts of private functions alone, which look a byte up without building its row: no statement speaks of these.
+use Prim.Native.Nat.{ℕ}
+use mathlib.Core.Bool.{Bool, true, false}
+use Rattle.codes.specs.Codes.{unknownCommand}
+use Rattle.grammar.specs.Grammar.{Context, Needs, Common, Selected, Configured, Effect, Keep, legal}
+use Rattle.grammar.specs.Scanner.{Opening, Unknown, Known, Extension, codeFor}
+
+-- whether the scanner accepts it
+abbrev pub accepts : Opening → Context → Bool
+accepts Unknown c = false
+accepts (Known k) c = legal (k .needs) c
+accepts Extension c = true
+
+abbrev pub isConfigured : Needs → Bool
+isConfigured Common = false
+isConfigured (Selected i) = false
+isConfigured Configured = true
+
+abbrev pub needsConfigured : Opening → Bool
+needsConfigured Unknown = false
+needsConfigured (Known k) = isConfigured (k .needs)
+needsConfigured Extension = false
+
+-- the code for it where it is not accepted; 1D always is
+abbrev pub codeOf : Opening → Context → ℕ
+codeOf Unknown c = unknownCommand
+codeOf (Known k) c = codeFor (k .needs) c
+codeOf Extension c = unknownCommand
+
+-- what it does to the context; 1D by itself does nothing
+abbrev pub effectOf : Opening → Effect
+effectOf Unknown = Keep
+effectOf (Known k) = k .effect
+effectOf Extension = Keep
