@@ -76,7 +76,7 @@ uint8_t bridge_switch_on(const uint8_t *stored, size_t stored_size, const uint8_
 /* Replays a session as far as surely fits into the output, and says how many bytes were written. The cursor is the state and five
  * numbers, at first the factory start and zeros; it is changed to where to go on, and the replay is over when `done` is not 0.
  * With BRIDGE_REPLAY_ROOM bytes of output a call always gets further. 1 if the image is no state; a state that breaks its ranges,
- * which no session comes to, ends the replay with a record of refusal 1. */
+ * which no session comes to, ends the replay at the next event with a record of refusal 1. */
 #define BRIDGE_REPLAY_ROOM 1046
 uint8_t bridge_replay(uint8_t *state, size_t state_size, size_t *at, size_t *end, size_t *sample, size_t *sampled, uint8_t *done,
                       const uint8_t *session, size_t session_size, uint8_t *output, size_t output_size, size_t *written);

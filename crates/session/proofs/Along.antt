@@ -5,7 +5,7 @@ use mathlib.Core.Bool.{Bool, true, false, cond, _||_, true≢false}
 use mathlib.Core.List.{List, [], _∷_, _++_, append-assoc, append-nil}
 use native.Mathlib.Omega.{arith}
 use native.Mathlib.Nat.{zero-add, add-zero, add-assoc, sub-zero}
-use borrow.Author.Tests.{le-leb, lt-leb, lt-ltb, le-ltb, ltb-true, ltb-false, leb-true}
+use borrow.Author.Tests.{le-leb, lt-leb, lt-ltb, le-ltb, ltb-true, ltb-false}
 use lib.Dec.{ltb, leb}
 use lib.ListN.{length, drop, getD, length-append}
 use Rattle.registers.specs.declared.Event.{Event}
@@ -26,7 +26,7 @@ use Rattle.session.specs.Runs.{Cursor, mostOutput, lentTo, Turn, finishe
 use Rattle.session.specs.Said.{Progress, halt, onward, progressOf, Entering}
 use Rattle.session.proofs.Calls.{not-refused, call-few}
 use Rattle.session.proofs.Parts.{part-none, part-first, no-fault, lent-rest}
-use Rattle.session.proofs.Reaching.{progress-step, progress-short}
+use Rattle.session.proofs.Progress.{progress-step, progress-short}
 
 -- STEPS, by their tests
 

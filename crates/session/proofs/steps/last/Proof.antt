@@ -1,8 +1,8 @@
 -- The last record, and a cursor that is over.
 use borrow.Author.Needs.{needs}
 use Rattle.session.proofs.Playing.{turned-last}
-use Rattle.session.proofs.replay.last.Statement.{statement}
-use Rattle.session.proofs.replay.last.Tie as tie
+use Rattle.session.proofs.steps.last.Statement.{statement}
+use Rattle.session.proofs.steps.last.Tie as tie
 
 pub last-spec : {M : Type 1} → statement M
 last-spec =

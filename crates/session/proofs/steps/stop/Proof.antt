@@ -1,8 +1,8 @@
 -- The record of the refusal, and a cursor that is over.
 use borrow.Author.Needs.{needs}
 use Rattle.session.proofs.Playing.{turned-stop}
-use Rattle.session.proofs.replay.stop.Statement.{statement}
-use Rattle.session.proofs.replay.stop.Tie as tie
+use Rattle.session.proofs.steps.stop.Statement.{statement}
+use Rattle.session.proofs.steps.stop.Tie as tie
 
 pub stop-spec : {M : Type 1} → statement M
 stop-spec =

@@ -3,8 +3,8 @@ use borrow.Author.Needs.{needs}
 use mathlib.Core.Path.{sym, _∙_}
 use native.Mathlib.Omega.{arith}
 use Rattle.session.proofs.Playing.{body-stops, body-samples, body-empty, body-enters}
-use Rattle.session.proofs.replay.take_body.Statement.{statement}
-use Rattle.session.proofs.replay.take_body.Tie as tie
+use Rattle.session.proofs.steps.take_body.Statement.{statement}
+use Rattle.session.proofs.steps.take_body.Tie as tie
 
 pub take-body-spec : {M : Type 1} → statement M
 take-body-spec =
