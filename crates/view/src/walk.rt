@@ -21,6 +21,8 @@ use crate::refused::say_refusal;
 use crate::text::finish;
 use crate::text::say;
 use crate::text::say_count;
+use refusals::Refusal;
+use refusals::number;
 use registers::Event;
 use registers::Wait;
 use session::replay::Cursor;
@@ -104,7 +106,7 @@ fn show_untaken(color: bool, c: Cursor, session: &[u8]) {
 }
 
 fn show_refusal(color: bool, r: Refused, c: Cursor, session: &[u8], t: Shown) {
-    if r.number == 2 {
+    if r.number == number(Refusal::Samples) as usize {
         show_untaken(color, c, session);
     }
     say_refusal(color, r);
