@@ -15,7 +15,7 @@ show-spec =
     (λ c κs. search needs)
     (λ c. search needs)
     (λ c. search needs)
-    (λ c. simp length-take (omega (arith, c .before .before .before .run .ensures .within)))
+    (λ c. simp length-take (omega (arith, c .before .before .before .run .ensures .made .within)))
     (λ c κs. search needs)
     (λ c. search needs)
     (λ c κs. search needs)
