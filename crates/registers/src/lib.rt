@@ -15,28 +15,28 @@ pub const HELD: usize = 9;
 // The registers that each bench will have for itself: COMMON_FLAGS, ERROR, the port registers, CONFIG_SPI, the configured
 // mark, PAKET_SIZE, the packet register and the timings. Their order here says nothing; it is the one that compiles best.
 pub struct Page {
-    pub ddrb: u8,
-    pub portb: u8,
-    pub ddrc: u8,
-    pub portc: u8,
-    pub ddrd: u8,
-    pub portd: u8,
-    pub configured: bool,
     pub flags: u8,
-    pub error: u8,
-    pub config: u8,
-    pub size: u8,
     pub packet: [u8; packet::BYTES],
+    pub ddrc: u8,
+    pub config: u8,
+    pub ddrd: u8,
+    pub size: u8,
+    pub portd: u8,
+    pub portc: u8,
     pub timings: [u8; TIMINGS],
+    pub ddrb: u8,
+    pub configured: bool,
+    pub error: u8,
+    pub portb: u8,
 }
 
 // What all benches share: the EPROM image, the version, the IOG count and the serial number, low byte first. Their order, too, is the
 // one that compiles best.
 pub struct Shared {
-    pub eprom: [u8; 10],
-    pub version: u8,
     pub cycles: u8,
     pub serial: [u8; 4],
+    pub version: u8,
+    pub eprom: [u8; 10],
 }
 
 // A port's direction or latch register.
@@ -73,10 +73,10 @@ pub enum Wait {
 
 // The state; `held` are the packet or timing bytes that the wait has so far.
 pub struct State {
-    pub page: Page,
-    pub shared: Shared,
-    pub wait: Wait,
     pub held: [u8; HELD],
+    pub shared: Shared,
+    pub page: Page,
+    pub wait: Wait,
 }
 
 // Which of three a line fault was.

@@ -24,7 +24,7 @@ exchanged-spec =
     (λ c. search needs)
     (λ c.
     let s = c .before .before .before .before .before in
-    let l : length (s .args .page .packet) ≡ registerBytes = sym (length-map (s .args .page .packet) _) ∙ s .good .0 .1 .1 .1 .1 .1 .1 .1 .1 .1 .1 .1 .1 .1 .0 .1 .0 .1 in
+    let l : length (s .args .page .packet) ≡ registerBytes = sym (length-map (s .args .page .packet) _) ∙ s .good .0 .1 .1 .1 .0 .1 .0 .1 in
     let ls = levels (s .args .samples .now) (s .args .from) (bitsIn (s .args .page)) in
     let e = exchange-right width (highFirst (s .args .page .config)) ls (s .args .page .packet) (omega arith) (omega (arith, s .pre .0, length-levels (s .args .samples .now) (s .args .from) (bitsIn (s .args .page)))) .holds in
     rw (c .exchange .ensures ∙ e, exchange-length (bitsIn (s .args .page)) (s .args .page .config) (s .args .page .packet) (omega (arith, s .pre .0)))))

@@ -9,10 +9,10 @@ use Rattle.image.proofs.encoding.put_shared.Statement.{statement}
 use Rattle.image.proofs.encoding.put_shared.Tie as tie
 
 eprom-size : (s : tie.Start) → length (s .args .h .eprom) ≡ epromBytes
-eprom-size s = sym (length-map (s .args .h .eprom) _) ∙ s .good .1 .1 .0 .1 .1 .0 .1 .0 .1
+eprom-size s = sym (length-map (s .args .h .eprom) _) ∙ s .good .1 .1 .0 .1 .1 .1 .1 .1 .0 .1 .0 .1
 
 serial-size : (s : tie.Start) → length (s .args .h .serial) ≡ serialBytes
-serial-size s = sym (length-map (s .args .h .serial) _) ∙ s .good .1 .1 .0 .1 .1 .1 .1 .1 .0 .1 .0 .1
+serial-size s = sym (length-map (s .args .h .serial) _) ∙ s .good .1 .1 .0 .1 .1 .1 .0 .1 .0 .1
 
 pub put-shared-spec : {M : Type 1} → statement M
 put-shared-spec =
