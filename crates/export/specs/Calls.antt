@@ -21,7 +21,6 @@ use Rattle.bridge.specs.declared.Judgement.{Judgement}
 use Rattle.bridge.specs.declared.Judgement.the-variants as j
 use Rattle.switch_on.specs.Start.{starting}
 use Rattle.switch_on.specs.SwitchOn.{Switched, switchOf}
-use Rattle.switch_on.specs.SwitchOn as on
 use Rattle.switch_on.specs.declared.Device.{Device}
 use Rattle.switch_on.specs.declared.Outcome as switch
 use Rattle.switch_on.specs.declared.Outcome.the-variants as s

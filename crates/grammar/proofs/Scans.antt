@@ -9,8 +9,8 @@ use borrow.Author.Tests.{eq-eqb}
 use lib.Dec.{eqb}
 use lib.ListN.{length, getD, drop, drop-of-length-le}
 use lib.Seq.{drop-cons}
-use Rattle.grammar.specs.Grammar.{Context, Effect, commands, legal, count, after}
-use Rattle.grammar.specs.Scanner.{Place, Between, Extended, Inside, Scanner, Scanned, Accepted, Rejected, Opening, Unknown, Known, Extension, rowOf, openingOf, codeFor, between, going, opened, scanAt, scan, Course, through, rejectedAt, later, resume, scanAll}
+use Rattle.grammar.specs.Grammar.{Context, Effect, commands, count, after}
+use Rattle.grammar.specs.Scanner.{Place, Extended, Inside, Scanner, Scanned, Accepted, Rejected, Opening, Unknown, Known, Extension, rowOf, openingOf, codeFor, between, going, opened, scanAt, scan, Course, through, rejectedAt, later, resume, scanAll}
 use Rattle.grammar.specs.Verdict.{Whole, Open, Wrong, atEnd, verdict}
 use Rattle.grammar.specs.Following.{openingIn, operandsOf, operandsIn}
 use Rattle.grammar.specs.Lookups.{accepts, codeOf, effectOf}

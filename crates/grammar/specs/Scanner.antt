@@ -1,8 +1,7 @@
 -- A scanner that reads a command stream byte by byte: a device of proof and the judge's definition. That it decides the
 -- grammar is a theorem (proofs/Decides.antt, `decides`).
 use Prim.Native.Nat.{ℕ, zero, suc}
-use mathlib.Core.Path.{_≡_}
-use mathlib.Core.Bool.{Bool, true, false, cond}
+use mathlib.Core.Bool.{cond}
 use mathlib.Core.List.{List, [], _∷_}
 use lib.Dec.{eqb}
 use Rattle.codes.specs.Codes.{noConfiguration, unknownCommand}

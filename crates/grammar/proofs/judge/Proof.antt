@@ -2,9 +2,9 @@
 use borrow.Author.Needs.{needs}
 use borrow.Author.Tests.{not-true, not-false}
 use mathlib.Core.Path.{refl, sym, _∙_}
-use Prim.Native.Nat.{_≤_, _-_, _+_}
+use Prim.Native.Nat.{_≤_, _-_}
 use native.Mathlib.Omega.{arith}
-use lib.ListN.{length, getD}
+use lib.ListN.{length}
 use Rattle.grammar.specs.Scanner.{between}
 use Rattle.grammar.proofs.Scans.{Read, standing, turn-wrong, turn-extension, turn-open, turn-item, turn-end}
 use Rattle.grammar.proofs.judge.Statement.{statement}

@@ -1,6 +1,5 @@
 -- By whether the factory image is good.
 use borrow.Author.Needs.{needs}
-use borrow.Author.Tests.{not-false}
 use mathlib.Core.Path.{sym, _∙_}
 use Rattle.switch_on.proofs.reason.Statement.{statement}
 use Rattle.switch_on.proofs.reason.Tie as tie
