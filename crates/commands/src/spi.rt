@@ -3,6 +3,7 @@ ghost use mathlib.Core.Path.{_≡_};
 ghost use Rattle.commands.specs.Changes.{decided};
 ghost use mathlib.Core.Bool.{cond};
 ghost use Prim.Native.Nat.{_<_};
+ghost use Rattle.codes.specs.Codes.{noConfiguration};
 ghost use Rattle.packet.specs.Packet.{width};
 ghost use Rattle.commands.specs.Plans.{plan, returns};
 ghost use Rattle.commands.specs.Spi.{spiOf, runSpi};
@@ -65,7 +66,7 @@ fn load_packet(s: State, exchange: bool) -> Decision
 
 // 46, 4B: an exchange with its answer; unconfigured, 40.
 fn exchange(s: State, answer: Answer) -> Decision
-    ensures { λ r. ⌜ decided s r ≡ cond (s .page .configured) (plan s Waveform.Exchange answer) (returns s 0x40) ⌝ }
+    ensures { λ r. ⌜ decided s r ≡ cond (s .page .configured) (plan s Waveform.Exchange answer) (returns s noConfiguration) ⌝ }
 {
     if s.page.configured {
         return make(s, Waveform::Exchange, answer);
