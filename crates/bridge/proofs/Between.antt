@@ -14,7 +14,7 @@ use Rattle.grammar.specs.declared.Effect.the-variants.{Keep, Configure, Resize}
 use Rattle.grammar.specs.declared.Place.the-variants.{Inside}
 use Rattle.grammar.specs.declared.Scanned.the-variants.{Rejected}
 use Rattle.packet.specs.Packet.{packetBytes}
-use Rattle.registers.specs.Registers.{i2cSelected, spiSelected, wireSelected, bitsIn}
+use Rattle.registers.specs.Registers.{i2cSelected, spiSelected, oneWireSelected, bitsIn}
 use Rattle.registers.specs.Ranges.{selectedCount}
 use Rattle.registers.specs.declared.Page.{Page}
 use Rattle.registers.specs.declared.Shared.{Shared}
@@ -108,10 +108,10 @@ module _ (page : Page) (shared : Shared) (held : List ℕ) (b : ℕ) where
     spi-agrees p.ExchangeAndRead = ready-row None Keep _ _ (refl, refl) (returns-code s 0x40)
     spi-agrees p.NoSpi = unknown-row s b (spiSelected (page .flags))
 
-    wire-row : (o : Operands) (e : Effect) (p : Plan) → Goes s b o e p → Opens s b (row b (Selected OneWire) o e) (cond (wireSelected (page .flags)) p (returns s 0x80))
-    wire-row = selected-row s b OneWire (wireSelected (page .flags)) (one-selected (page .flags) one .wire)
+    wire-row : (o : Operands) (e : Effect) (p : Plan) → Goes s b o e p → Opens s b (row b (Selected OneWire) o e) (cond (oneWireSelected (page .flags)) p (returns s 0x80))
+    wire-row = selected-row s b OneWire (oneWireSelected (page .flags)) (one-selected (page .flags) one .wire)
 
-    wire-agrees : (c : WireCommand) → Opens s b (wireOpening b c) (cond (wireSelected (page .flags)) (runWire s c) (returns s 0x80))
+    wire-agrees : (c : WireCommand) → Opens s b (wireOpening b c) (cond (oneWireSelected (page .flags)) (runWire s c) (returns s 0x80))
     wire-agrees w.SendReset = wire-row None Keep _ (refl, refl)
     wire-agrees w.SendWire = wire-row One Keep _ (refl, refl)
     wire-agrees w.SendWireBit = wire-row One Keep _ (refl, refl)
@@ -122,7 +122,7 @@ module _ (page : Page) (shared : Shared) (held : List ℕ) (b : ℕ) where
     wire-agrees w.ReadTimings = wire-row None Keep _ (refl, refl)
     wire-agrees w.ReleaseDq = wire-row None Keep _ (refl, refl)
     wire-agrees (w.PulsePb7 a c) = wire-row None Keep _ (refl, refl)
-    wire-agrees w.NoWire = unknown-row s b (wireSelected (page .flags))
+    wire-agrees w.NoWire = unknown-row s b (oneWireSelected (page .flags))
 
     -- THE BYTE: the same tests choose the row and the plan
     pub command-agrees : Opens s b (commandOpening b) (commandPlan s b)

@@ -8,7 +8,7 @@ use lib.Dec.{eqb}
 use Rattle.grammar.specs.Grammar.{numberOf}
 use Rattle.grammar.specs.declared.Interface.{Interface}
 use Rattle.grammar.specs.declared.Interface.the-variants.{NoInterface, I2C, SPI, OneWire}
-use Rattle.registers.specs.Registers.{i2cSelected, spiSelected, wireSelected}
+use Rattle.registers.specs.Registers.{i2cSelected, spiSelected, oneWireSelected}
 use Rattle.registers.specs.Ranges.{selectedCount}
 use Rattle.registers.proofs.Flags.{same-selected}
 use Rattle.bridge.specs.Views.{interfaceOf}
@@ -25,7 +25,7 @@ same-interface f g h = let t = same-selected f g h in λ i. choose (eqb (t .i2c 
 pub record OneSelected (flags : ℕ) : Type 0 where
   pub i2c : i2cSelected flags ≡ eqb (numberOf (interfaceOf flags)) (numberOf I2C)
   pub spi : spiSelected flags ≡ eqb (numberOf (interfaceOf flags)) (numberOf SPI)
-  pub wire : wireSelected flags ≡ eqb (numberOf (interfaceOf flags)) (numberOf OneWire)
+  pub wire : oneWireSelected flags ≡ eqb (numberOf (interfaceOf flags)) (numberOf OneWire)
 
 -- the same of three Booleans
 abbrev Apart : Bool → Bool → Bool → Type 0
@@ -42,5 +42,5 @@ apart x y z h false false false p q r = (refl, refl, refl)
 
 pub one-selected : (flags : ℕ) → selectedCount flags ≤ 1 → OneSelected flags
 one-selected flags h =
-    let t = apart (flags % 2) (flags / 2 % 2) (flags / 4 % 2) h (i2cSelected flags) (spiSelected flags) (wireSelected flags) refl refl refl in
+    let t = apart (flags % 2) (flags / 2 % 2) (flags / 4 % 2) h (i2cSelected flags) (spiSelected flags) (oneWireSelected flags) refl refl refl in
     record { i2c = t .0; spi = t .1; wire = t .2 }

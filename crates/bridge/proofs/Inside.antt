@@ -52,9 +52,9 @@ module _ (s : State) (b : ℕ) where
   operand-agrees o.ToI2c = (refl, refl)
   operand-agrees o.ToConfig = (refl, refl)
   operand-agrees o.ToSize = (refl, refl)
-  operand-agrees o.ToWire = (refl, refl)
-  operand-agrees o.ToWireBit = (refl, refl)
-  operand-agrees o.ToWireStrong = (refl, refl)
+  operand-agrees o.ToOneWire = (refl, refl)
+  operand-agrees o.ToOneWireBit = (refl, refl)
+  operand-agrees o.ToOneWireStrong = (refl, refl)
 
   -- ONE OF SEVERAL BYTES, where so many were waited for: the plan of the last one, and of another
   counted : (left : ℕ) (p q : Plan) → 1 ≤ left → PlanAgrees s (Accepted (between (contextOf s))) p → PlanAgrees s (Accepted (record { context = contextOf s; place = Inside Keep (left - 1 - 1) })) q

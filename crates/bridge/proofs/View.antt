@@ -19,9 +19,9 @@ operandEffect o.ToCycles = Keep
 operandEffect o.ToI2c = Keep
 operandEffect o.ToConfig = Configure
 operandEffect o.ToSize = Resize
-operandEffect o.ToWire = Keep
-operandEffect o.ToWireBit = Keep
-operandEffect o.ToWireStrong = Keep
+operandEffect o.ToOneWire = Keep
+operandEffect o.ToOneWireBit = Keep
+operandEffect o.ToOneWireStrong = Keep
 
 -- a place counts the bytes after the next, so a wait for so many is inside with one less
 abbrev pub placeOf : Wait → Place

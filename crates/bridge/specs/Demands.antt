@@ -10,13 +10,12 @@ use Rattle.wire.specs.Action.{bytesOf}
 use Rattle.codes.specs.Codes.{rejecting}
 use Rattle.wire.specs.Sample.{samplings, SameFrom}
 use Rattle.registers.specs.Registers.{withPage, withError}
-use Rattle.registers.specs.Ranges.{InRange}
+use Rattle.registers.specs.Ranges.{InRange, Sized}
 use Rattle.registers.specs.declared.Event.{Event}
 use Rattle.registers.specs.declared.Event.the-variants as e
 use Rattle.registers.specs.declared.Wait.the-variants as v
 use Rattle.commands.specs.Said.{codesOf, isRejected}
 use Rattle.commands.specs.Plans.{sentBy}
-use Rattle.commands.specs.Promises.{Sized}
 use Rattle.grammar.specs.Calls.{Machine, Call}
 use Rattle.grammar.specs.Calls as grammar
 use Rattle.grammar.specs.Following.{Leads}

@@ -10,7 +10,7 @@ use Rattle.packet.specs.Packet.{width, registerBytes, packetBytes, lowBytes}
 use Rattle.packet.proofs.Bytes.{length-register}
 use Rattle.packet.proofs.Loads.{length-low}
 use Rattle.registers.specs.Registers.{reportsOn, bitsIn}
-use Rattle.registers.specs.Ranges.{InRange}
+use Rattle.registers.specs.Ranges.{InRange, Sized}
 use Rattle.registers.specs.declared.Page.{Page}
 use Rattle.registers.specs.declared.State.{State}
 use Rattle.registers.specs.declared.Event.{Event}
@@ -21,7 +21,7 @@ use Rattle.signals.specs.declared.Waveform.the-variants as w
 use Rattle.commands.specs.Said.{returned, sent, repliesOf}
 use Rattle.commands.specs.Plans.{Plan, Answer, Silent, Returns, ReturnsTwice, ReturnsAndSends, Checked, Sends, SendsSample, SendsLevel, SendsEprom, SendsSerial, SendsTimings, SendsPacket, SendsLow, ReturnsThenLow, saidOf, received, carriedOut}
 use Rattle.commands.specs.Events.{planOf, effectOf}
-use Rattle.commands.specs.Promises.{mostReplies, Sized, FewActions, FewReplies}
+use Rattle.commands.specs.Promises.{mostReplies, FewActions, FewReplies}
 use Rattle.commands.proofs.Choices.{at-most}
 use Rattle.commands.proofs.Sent.{replies-sent}
 use Rattle.commands.proofs.KeptParts.{Kept}

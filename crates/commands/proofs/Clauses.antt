@@ -6,7 +6,7 @@ use mathlib.Core.List.{List}
 use lib.Dec.{eqb, ltb}
 use Rattle.codes.specs.Codes.{rejecting}
 use Rattle.codes.proofs.Lookup.{either}
-use Rattle.registers.specs.Registers.{i2cSelected, spiSelected, wireSelected}
+use Rattle.registers.specs.Registers.{i2cSelected, spiSelected, oneWireSelected}
 use Rattle.registers.specs.declared.State.{State}
 use Rattle.registers.specs.declared.Operand.{Operand}
 use Rattle.registers.specs.declared.Operand.the-variants as o
@@ -141,7 +141,7 @@ module _ (s : State) where
       either (Clause s) (ltb b 0x20) _ _ (common-clause (commonOf b))
       (either (Clause s) (ltb b 0x40) _ _ (either (Clause s) (i2cSelected (s .page .flags)) _ _ (i2c-clause (i2cOf b)) unknown)
       (either (Clause s) (ltb b 0x60) _ _ (either (Clause s) (spiSelected (s .page .flags)) _ _ (spi-clause (spiOf b)) unknown)
-      (either (Clause s) (wireSelected (s .page .flags)) _ _ (wire-clause (wireOf b)) unknown)))
+      (either (Clause s) (oneWireSelected (s .page .flags)) _ _ (wire-clause (wireOf b)) unknown)))
 
   operand-clause : (a : Operand) (b : ℕ) → Clause s (operandPlan s a b)
   operand-clause (o.ToPort a) b = fine refl refl
@@ -149,9 +149,9 @@ module _ (s : State) where
   operand-clause o.ToI2c b = fine refl refl
   operand-clause o.ToConfig b = fine refl refl
   operand-clause o.ToSize b = fine refl refl
-  operand-clause o.ToWire b = fine refl refl
-  operand-clause o.ToWireBit b = fine refl refl
-  operand-clause o.ToWireStrong b = fine refl refl
+  operand-clause o.ToOneWire b = fine refl refl
+  operand-clause o.ToOneWireBit b = fine refl refl
+  operand-clause o.ToOneWireStrong b = fine refl refl
 
   loaded-clause : (held : List ℕ) (exchange : Bool) → Clause s (loadedPlan s held exchange)
   loaded-clause held true = fine refl refl

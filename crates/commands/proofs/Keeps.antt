@@ -6,7 +6,7 @@ use native.Mathlib.Omega.{arith}
 use borrow.Author.Tests.{eqb-false}
 use lib.Dec.{eqb, ltb}
 use Rattle.packet.specs.Packet.{width, packetBytes, sizeRegister}
-use Rattle.registers.specs.Registers.{i2cSelected, spiSelected, wireSelected, bitsIn, configuredAs, withSize}
+use Rattle.registers.specs.Registers.{i2cSelected, spiSelected, oneWireSelected, bitsIn, configuredAs, withSize}
 use Rattle.registers.specs.Ranges.{selectedCount, PageInRange, PacketWait, InRange}
 use Rattle.registers.specs.declared.Page.{Page}
 use Rattle.registers.specs.declared.State.{State}
@@ -108,15 +108,15 @@ module _ (s : State) (n : InRange s) where
   spi-keeps t p.ExchangeAndRead = kept-cond (s .page .configured) _ _ (λ c. n) (λ c. n)
   spi-keeps t p.NoSpi = n
 
-  wire-keeps : wireSelected (s .page .flags) ≡ true → (c : WireCommand) → Kept (runWire s c)
+  wire-keeps : oneWireSelected (s .page .flags) ≡ true → (c : WireCommand) → Kept (runWire s c)
   unfolding q Kept
   wire-keeps t w.SendReset = n
-  wire-keeps t w.SendWire = waits s (v.One o.ToWire) q t
-  wire-keeps t w.SendWireBit = waits s (v.One o.ToWireBit) q t
-  wire-keeps t w.SendWireStrong = waits s (v.One o.ToWireStrong) q t
+  wire-keeps t w.SendWire = waits s (v.One o.ToOneWire) q t
+  wire-keeps t w.SendWireBit = waits s (v.One o.ToOneWireBit) q t
+  wire-keeps t w.SendWireStrong = waits s (v.One o.ToOneWireStrong) q t
   wire-keeps t w.ReadWire = n
   wire-keeps t w.ReadWireBit = n
-  wire-keeps t w.LoadTimings = waits s (v.Timings 9) q (record { wire-selected = t; one-or-more = omega arith; nine-or-less = omega arith })
+  wire-keeps t w.LoadTimings = waits s (v.Timings 9) q (record { one-wire-selected = t; one-or-more = omega arith; nine-or-less = omega arith })
   wire-keeps t w.ReadTimings = n
   wire-keeps t w.ReleaseDq = n
   wire-keeps t (w.PulsePb7 a b) = n
@@ -128,7 +128,7 @@ module _ (s : State) (n : InRange s) where
       kept-cond (ltb b 0x20) _ _ (λ _. common-keeps e (commonOf b))
       (λ _. kept-cond (ltb b 0x40) _ _ (λ _. kept-cond (i2cSelected (s .page .flags)) _ _ (λ t. i2c-keeps t (i2cOf b)) (λ _. n))
       (λ _. kept-cond (ltb b 0x60) _ _ (λ _. kept-cond (spiSelected (s .page .flags)) _ _ (λ t. spi-keeps t (spiOf b)) (λ _. n))
-      (λ _. kept-cond (wireSelected (s .page .flags)) _ _ (λ t. wire-keeps t (wireOf b)) (λ _. n))))
+      (λ _. kept-cond (oneWireSelected (s .page .flags)) _ _ (λ t. wire-keeps t (wireOf b)) (λ _. n))))
 
   config-keeps : (b : ℕ) → PageInRange (configuredAs (s .page) (b % 8))
   unfolding q
@@ -145,9 +145,9 @@ module _ (s : State) (n : InRange s) where
   operand-keeps o.ToI2c b = settles s (s .page) q
   operand-keeps o.ToConfig b = settles s _ (config-keeps b)
   operand-keeps o.ToSize b = settles s _ (size-keeps b)
-  operand-keeps o.ToWire b = settles s (s .page) q
-  operand-keeps o.ToWireBit b = settles s (s .page) q
-  operand-keeps o.ToWireStrong b = settles s (s .page) q
+  operand-keeps o.ToOneWire b = settles s (s .page) q
+  operand-keeps o.ToOneWireBit b = settles s (s .page) q
+  operand-keeps o.ToOneWireStrong b = settles s (s .page) q
 
   loaded-keeps : (held : List ℕ) (exchange : Bool) → Kept (loadedPlan s held exchange)
   unfolding q Kept
@@ -166,7 +166,7 @@ module _ (s : State) (n : InRange s) where
   timings-keeps left b e =
       let t = wait-as s (v.Timings left) n e in
       kept-cond (eqb left 1) _ _ (λ _. settles s _ q)
-      (λ f. record { page = q; wait = record { wire-selected = t .wire-selected; one-or-more = below-one left (t .one-or-more) (eqb-false left 1 f); nine-or-less = omega (arith, t .nine-or-less) } })
+      (λ f. record { page = q; wait = record { one-wire-selected = t .one-wire-selected; one-or-more = below-one left (t .one-or-more) (eqb-false left 1 f); nine-or-less = omega (arith, t .nine-or-less) } })
 
   byte-keeps : (a : Wait) (b : ℕ) → s .wait ≡ a → Kept (bytePlan s a b)
   byte-keeps v.Nothing b e = command-keeps e b

@@ -10,7 +10,7 @@ use Rattle.wire.specs.Sample.{samplesIn}
 use Rattle.codes.proofs.Lookup.{either, found}
 use Rattle.packet.specs.Packet.{width, registerBytes, loaded}
 use Rattle.packet.proofs.Bytes.{length-register}
-use Rattle.registers.specs.Registers.{i2cSelected, spiSelected, wireSelected, verbOf, highFirst, bitsIn}
+use Rattle.registers.specs.Registers.{i2cSelected, spiSelected, oneWireSelected, verbOf, highFirst, bitsIn}
 use Rattle.registers.specs.declared.State.{State}
 use Rattle.registers.specs.declared.PortRegister.{PortRegister}
 use Rattle.registers.specs.declared.PortRegister.the-variants as r
@@ -93,7 +93,7 @@ module _ (s : State) (h : s .page .size < width) (l : length (s .page .packet) �
       either Fine (ltb b 0x20) _ _ (common-fine (commonOf b))
       (either Fine (ltb b 0x40) _ _ (either Fine (i2cSelected (s .page .flags)) _ _ (i2c-fine b) tt)
       (either Fine (ltb b 0x60) _ _ (either Fine (spiSelected (s .page .flags)) _ _ (spi-fine b) tt)
-      (either Fine (wireSelected (s .page .flags)) _ _ (wire-fine b) tt)))
+      (either Fine (oneWireSelected (s .page .flags)) _ _ (wire-fine b) tt)))
 
   operand-fine : (a : Operand) (b : ℕ) → Fine (operandPlan s a b)
   operand-fine (o.ToPort a) b = port-verb a
@@ -101,9 +101,9 @@ module _ (s : State) (h : s .page .size < width) (l : length (s .page .packet) �
   operand-fine o.ToI2c b = tt
   operand-fine o.ToConfig b = tt
   operand-fine o.ToSize b = tt
-  operand-fine o.ToWire b = tt
-  operand-fine o.ToWireBit b = tt
-  operand-fine o.ToWireStrong b = tt
+  operand-fine o.ToOneWire b = tt
+  operand-fine o.ToOneWireBit b = tt
+  operand-fine o.ToOneWireStrong b = tt
 
   loaded-fine : (held : List ℕ) (exchange : Bool) → Fine (loadedPlan s held exchange)
   loaded-fine held true = (h, length-loaded (bitsIn (s .page)) (highFirst (s .page .config)) held)

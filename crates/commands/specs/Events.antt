@@ -5,7 +5,7 @@ use mathlib.Core.List.{List}
 use lib.Dec.{eqb, ltb}
 use lib.ListN.{set}
 use Rattle.packet.specs.Packet.{width, packetBytes, sizeRegister, loaded}
-use Rattle.registers.specs.Registers.{i2cSelected, spiSelected, wireSelected, highFirst, bitsIn, registerOf, withRegister, protected, verbOf, lineOf, faultCode, configuredAs, withSize, withPacket, withTimings, withShared, holding, settled}
+use Rattle.registers.specs.Registers.{i2cSelected, spiSelected, oneWireSelected, highFirst, bitsIn, registerOf, withRegister, protected, verbOf, lineOf, faultCode, configuredAs, withSize, withPacket, withTimings, withShared, holding, settled}
 use Rattle.registers.specs.declared.State.{State}
 use Rattle.registers.specs.declared.PortRegister.{PortRegister}
 use Rattle.registers.specs.declared.Operand.{Operand}
@@ -30,7 +30,7 @@ commandPlan s b =
     cond (ltb b 0x20) (runCommon s (commonOf b))
     (cond (ltb b 0x40) (cond (i2cSelected (s .page .flags)) (runI2c s (i2cOf b)) (returns s 0x80))
     (cond (ltb b 0x60) (cond (spiSelected (s .page .flags)) (runSpi s (spiOf b)) (returns s 0x80))
-    (cond (wireSelected (s .page .flags)) (runWire s (wireOf b)) (returns s 0x80))))
+    (cond (oneWireSelected (s .page .flags)) (runWire s (wireOf b)) (returns s 0x80))))
 
 -- AN OPERAND
 
@@ -56,9 +56,9 @@ operandPlan s o.ToConfig x = returns (settled s (configuredAs (s .page) (x % 8))
 -- 42: "register = (operand + 63) mod 64; 00"
 operandPlan s o.ToSize x = returns (settled s (withSize (s .page) (sizeRegister width x))) 0x00
 -- 61, 63, 67: "one operand, all or its low bit; 00"
-operandPlan s o.ToWire x = performs (settled s (s .page)) (w.WriteWire x)
-operandPlan s o.ToWireBit x = performs (settled s (s .page)) (w.WriteWireBit x)
-operandPlan s o.ToWireStrong x = performs (settled s (s .page)) (w.WriteWireStrong x)
+operandPlan s o.ToOneWire x = performs (settled s (s .page)) (w.WriteWire x)
+operandPlan s o.ToOneWireBit x = performs (settled s (s .page)) (w.WriteWireBit x)
+operandPlan s o.ToOneWireStrong x = performs (settled s (s .page)) (w.WriteWireStrong x)
 
 -- PACKET AND TIMING BYTES
 

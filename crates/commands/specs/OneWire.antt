@@ -23,9 +23,9 @@ wireOf b = lookup k.NoWire b wireTable
 abbrev pub runWire : State → WireCommand → Plan
 -- "low returns 00, else 60"
 runWire s k.SendReset = plan s w.ResetWire (Checked 0x60)
-runWire s k.SendWire = awaits s (v.One o.ToWire)
-runWire s k.SendWireBit = awaits s (v.One o.ToWireBit)
-runWire s k.SendWireStrong = awaits s (v.One o.ToWireStrong)
+runWire s k.SendWire = awaits s (v.One o.ToOneWire)
+runWire s k.SendWireBit = awaits s (v.One o.ToOneWireBit)
+runWire s k.SendWireStrong = awaits s (v.One o.ToOneWireStrong)
 runWire s k.ReadWire = plan s w.ReadWire SendsSample
 -- "64 one bit as 0F/8F"
 runWire s k.ReadWireBit = plan s w.ReadWireBit SendsLevel

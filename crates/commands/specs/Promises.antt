@@ -6,9 +6,9 @@ use mathlib.Core.List.{List, [], _∷_}
 use lib.ListN.{length}
 use Rattle.codes.specs.Codes.{rejecting}
 use Rattle.wire.specs.Sample.{samplings, SameFrom}
-use Rattle.packet.specs.Packet.{width, registerBytes}
+use Rattle.packet.specs.Packet.{width}
 use Rattle.registers.specs.Registers.{withPage, withError}
-use Rattle.registers.specs.Ranges.{InRange}
+use Rattle.registers.specs.Ranges.{InRange, Sized}
 use Rattle.registers.specs.declared.State.{State}
 use Rattle.registers.specs.declared.Event.{Event}
 use Rattle.commands.specs.Said.{codesOf, isRejected}
@@ -31,13 +31,6 @@ pub record OnlyError (s : State) (x : Effect) : Type 0 where
 
 abbrev pub Rejects : State → Event → List ℕ → ℕ → Type 0
 Rejects s e ss m = isRejected ((effectOf s e ss m) .said) ≡ true → OnlyError s (effectOf s e ss m)
-
--- the arrays of a state have their sizes
-pub record Sized (s : State) : Type 0 where
-  pub eprom : length (s .shared .eprom) ≡ 10
-  pub serial : length (s .shared .serial) ≡ 4
-  pub packet : length (s .page .packet) ≡ registerBytes
-  pub timings : length (s .page .timings) ≡ 9
 
 -- `event-takes` in proofs/Samples.antt: the samples used are those taken, by the actions with verb 3 or 7
 abbrev pub SamplesTaken : State → Event → List ℕ → ℕ → Type 0

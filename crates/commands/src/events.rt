@@ -92,13 +92,13 @@ fn operand(s: State, o: Operand, x: u8) -> Decision
             Waveform::Still,
             Answer::Returns(codes::NO_ERROR),
         ),
-        Operand::ToWire => settling(s, Waveform::WriteWire(x), Answer::Returns(codes::NO_ERROR)),
-        Operand::ToWireBit => settling(
+        Operand::ToOneWire => settling(s, Waveform::WriteWire(x), Answer::Returns(codes::NO_ERROR)),
+        Operand::ToOneWireBit => settling(
             s,
             Waveform::WriteWireBit(x),
             Answer::Returns(codes::NO_ERROR),
         ),
-        Operand::ToWireStrong => settling(
+        Operand::ToOneWireStrong => settling(
             s,
             Waveform::WriteWireStrong(x),
             Answer::Returns(codes::NO_ERROR),

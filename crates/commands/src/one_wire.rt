@@ -47,9 +47,9 @@ pub(crate) fn run(s: State, c: WireCommand) -> Decision
 {
     match c {
         WireCommand::SendReset => make(s, Waveform::ResetWire, Answer::Checked(codes::NO_PRESENCE)),
-        WireCommand::SendWire => awaiting(s, Wait::One(Operand::ToWire)),
-        WireCommand::SendWireBit => awaiting(s, Wait::One(Operand::ToWireBit)),
-        WireCommand::SendWireStrong => awaiting(s, Wait::One(Operand::ToWireStrong)),
+        WireCommand::SendWire => awaiting(s, Wait::One(Operand::ToOneWire)),
+        WireCommand::SendWireBit => awaiting(s, Wait::One(Operand::ToOneWireBit)),
+        WireCommand::SendWireStrong => awaiting(s, Wait::One(Operand::ToOneWireStrong)),
         WireCommand::ReadWire => make(s, Waveform::ReadWire, Answer::SendsSample),
         WireCommand::ReadWireBit => make(s, Waveform::ReadWireBit, Answer::SendsLevel),
         WireCommand::LoadTimings => awaiting(

@@ -6,7 +6,7 @@ use native.Mathlib.Omega.{arith}
 use borrow.Author.Tests.{le-leb, eqb-true}
 use lib.Dec.{eqb, leb}
 use Rattle.registers.specs.declared.PortRegister.the-variants.{Ddrb, Portb, Ddrc, Portc, Ddrd, Portd}
-use Rattle.registers.specs.declared.Operand.the-variants.{ToPort, ToCycles, ToI2c, ToConfig, ToSize, ToWire, ToWireBit, ToWireStrong}
+use Rattle.registers.specs.declared.Operand.the-variants.{ToPort, ToCycles, ToI2c, ToConfig, ToSize, ToOneWire, ToOneWireBit, ToOneWireStrong}
 use Rattle.registers.specs.declared.Wait.{Wait}
 use Rattle.registers.specs.declared.Wait.the-variants.{Nothing, One, Extended, Packet, Timings}
 use Rattle.grammar.proofs.Lookups.{byte-fact}
@@ -30,9 +30,9 @@ wait-numbered (One ToCycles) = record { back = refl; known = refl; left = refl }
 wait-numbered (One ToI2c) = record { back = refl; known = refl; left = refl }
 wait-numbered (One ToConfig) = record { back = refl; known = refl; left = refl }
 wait-numbered (One ToSize) = record { back = refl; known = refl; left = refl }
-wait-numbered (One ToWire) = record { back = refl; known = refl; left = refl }
-wait-numbered (One ToWireBit) = record { back = refl; known = refl; left = refl }
-wait-numbered (One ToWireStrong) = record { back = refl; known = refl; left = refl }
+wait-numbered (One ToOneWire) = record { back = refl; known = refl; left = refl }
+wait-numbered (One ToOneWireBit) = record { back = refl; known = refl; left = refl }
+wait-numbered (One ToOneWireStrong) = record { back = refl; known = refl; left = refl }
 wait-numbered Extended = record { back = refl; known = refl; left = refl }
 wait-numbered (Packet left true) = record { back = refl; known = refl; left = refl }
 wait-numbered (Packet left false) = record { back = refl; known = refl; left = refl }

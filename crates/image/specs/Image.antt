@@ -12,11 +12,11 @@ use Rattle.registers.specs.declared.State.{State}
 use Rattle.registers.specs.declared.PortRegister.{PortRegister}
 use Rattle.registers.specs.declared.PortRegister.the-variants.{Ddrb, Portb, Ddrc, Portc, Ddrd, Portd}
 use Rattle.registers.specs.declared.Operand.{Operand}
-use Rattle.registers.specs.declared.Operand.the-variants.{ToPort, ToCycles, ToI2c, ToConfig, ToSize, ToWire, ToWireBit, ToWireStrong}
+use Rattle.registers.specs.declared.Operand.the-variants.{ToPort, ToCycles, ToI2c, ToConfig, ToSize, ToOneWire, ToOneWireBit, ToOneWireStrong}
 use Rattle.registers.specs.declared.Wait.{Wait}
 use Rattle.registers.specs.declared.Wait.the-variants.{Nothing, One, Extended, Packet, Timings}
 use Rattle.codes.specs.Tables.{Entry, _is_, lookup}
-use Rattle.commands.specs.Promises.{Sized}
+use Rattle.registers.specs.Ranges.{Sized}
 
 -- THE SIZES of the state's arrays; the packet register's is `registerBytes`
 abbrev pub timingBytes : ℕ
@@ -81,9 +81,9 @@ operandCode ToCycles = 7
 operandCode ToI2c = 8
 operandCode ToConfig = 9
 operandCode ToSize = 10
-operandCode ToWire = 11
-operandCode ToWireBit = 12
-operandCode ToWireStrong = 13
+operandCode ToOneWire = 11
+operandCode ToOneWireBit = 12
+operandCode ToOneWireStrong = 13
 
 abbrev pub waitCode : Wait → ℕ
 waitCode Nothing = 0
@@ -143,7 +143,7 @@ abbrev pub waitTable : ℕ → List (Entry Wait)
 waitTable left =
     0 is Nothing
     ∷ 1 is One (ToPort Ddrb) ∷ 2 is One (ToPort Portb) ∷ 3 is One (ToPort Ddrc) ∷ 4 is One (ToPort Portc) ∷ 5 is One (ToPort Ddrd) ∷ 6 is One (ToPort Portd)
-    ∷ 7 is One ToCycles ∷ 8 is One ToI2c ∷ 9 is One ToConfig ∷ 10 is One ToSize ∷ 11 is One ToWire ∷ 12 is One ToWireBit ∷ 13 is One ToWireStrong
+    ∷ 7 is One ToCycles ∷ 8 is One ToI2c ∷ 9 is One ToConfig ∷ 10 is One ToSize ∷ 11 is One ToOneWire ∷ 12 is One ToOneWireBit ∷ 13 is One ToOneWireStrong
     ∷ 14 is Extended ∷ 15 is Packet left false ∷ 16 is Packet left true ∷ 17 is Timings left ∷ []
 
 abbrev pub waitOf : ℕ → ℕ → Wait

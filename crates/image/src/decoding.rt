@@ -55,9 +55,9 @@ fn wait_of(code: u8, left: u8) -> Wait
         8 => Wait::One(Operand::ToI2c),
         9 => Wait::One(Operand::ToConfig),
         10 => Wait::One(Operand::ToSize),
-        11 => Wait::One(Operand::ToWire),
-        12 => Wait::One(Operand::ToWireBit),
-        13 => Wait::One(Operand::ToWireStrong),
+        11 => Wait::One(Operand::ToOneWire),
+        12 => Wait::One(Operand::ToOneWireBit),
+        13 => Wait::One(Operand::ToOneWireStrong),
         14 => Wait::Extended,
         15 => Wait::Packet {
             left,

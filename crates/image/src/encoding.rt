@@ -35,9 +35,9 @@ fn operand_code(o: Operand) -> u8
         Operand::ToI2c => 8,
         Operand::ToConfig => 9,
         Operand::ToSize => 10,
-        Operand::ToWire => 11,
-        Operand::ToWireBit => 12,
-        Operand::ToWireStrong => 13,
+        Operand::ToOneWire => 11,
+        Operand::ToOneWireBit => 12,
+        Operand::ToOneWireStrong => 13,
     }
 }
 

@@ -7,11 +7,11 @@ use native.Mathlib.Omega.{arith}
 use borrow.Author.Tests.{lt-ltb, le-leb, eq-eqb, ltb-true, leb-true, eqb-true}
 use lib.Dec.{eqb, leb, ltb}
 use Rattle.packet.specs.Packet.{width, packetBytes}
-use Rattle.registers.specs.Registers.{Page, State, Operand, ToPort, ToCycles, ToI2c, ToConfig, ToSize, ToWire, ToWireBit, ToWireStrong, Wait, Nothing, One, Extended, Packet, Timings, spiSelected, wireSelected, bitsIn}
+use Rattle.registers.specs.Registers.{Page, State, Operand, ToPort, ToCycles, ToI2c, ToConfig, ToSize, ToOneWire, ToOneWireBit, ToOneWireStrong, Wait, Nothing, One, Extended, Packet, Timings, spiSelected, oneWireSelected, bitsOf, bitsIn, timingBytes}
 use Rattle.registers.specs.Ranges.{selectedCount, operandFits, waitFits, pageFits, PageInRange, OperandInRange, WaitInRange, InRange, RangeTest}
 
 -- ceil(N/8) by the size register
-pub most-left : (size : ℕ) → size / 8 + 1 ≡ packetBytes (size + 1)
+pub most-left : (size : ℕ) → size / 8 + 1 ≡ packetBytes (bitsOf size)
 most-left size = omega arith
 
 pub both-left : (a b : Bool) → a && b ≡ true → a ≡ true
@@ -66,9 +66,9 @@ operand-test ToCycles flags = (λ e. tt, λ r. refl)
 operand-test ToI2c flags = (λ e. e, λ r. r)
 operand-test ToConfig flags = (λ e. e, λ r. r)
 operand-test ToSize flags = (λ e. e, λ r. r)
-operand-test ToWire flags = (λ e. e, λ r. r)
-operand-test ToWireBit flags = (λ e. e, λ r. r)
-operand-test ToWireStrong flags = (λ e. e, λ r. r)
+operand-test ToOneWire flags = (λ e. e, λ r. r)
+operand-test ToOneWireBit flags = (λ e. e, λ r. r)
+operand-test ToOneWireStrong flags = (λ e. e, λ r. r)
 
 wait-facts : (w : Wait) (flags : ℕ) (configured : Bool) (n : ℕ) → waitFits w flags configured n ≡ true → WaitInRange w flags configured n
 wait-facts Nothing flags configured n e = tt
@@ -83,18 +83,18 @@ wait-facts (Packet left exchange) flags configured n e =
     let e1 = both-left (a && b) c e2 in
     record { spi-selected = both-left a b e1; spi-configured = both-right a b e1; one-or-more = leb-true _ _ (both-right (a && b) c e2); packet-or-less = leb-true _ _ (both-right (a && b && c) d e) }
 wait-facts (Timings left) flags configured n e =
-    let a = wireSelected flags in
+    let a = oneWireSelected flags in
     let b = leb 1 left in
-    let c = leb left 9 in
+    let c = leb left timingBytes in
     let e1 = both-left (a && b) c e in
-    record { wire-selected = both-left a b e1; one-or-more = leb-true _ _ (both-right a b e1); nine-or-less = leb-true _ _ (both-right (a && b) c e) }
+    record { one-wire-selected = both-left a b e1; one-or-more = leb-true _ _ (both-right a b e1); nine-or-less = leb-true _ _ (both-right (a && b) c e) }
 
 wait-tested : (w : Wait) (flags : ℕ) (configured : Bool) (n : ℕ) → WaitInRange w flags configured n → waitFits w flags configured n ≡ true
 wait-tested Nothing flags configured n r = refl
 wait-tested (One o) flags configured n r = operand-test o flags .1 r
 wait-tested Extended flags configured n r = refl
 wait-tested (Packet left exchange) flags configured n r = both (both (both (r .spi-selected) (r .spi-configured)) (le-leb _ _ (r .one-or-more))) (le-leb _ _ (r .packet-or-less))
-wait-tested (Timings left) flags configured n r = both (both (r .wire-selected) (le-leb _ _ (r .one-or-more))) (le-leb _ _ (r .nine-or-less))
+wait-tested (Timings left) flags configured n r = both (both (r .one-wire-selected) (le-leb _ _ (r .one-or-more))) (le-leb _ _ (r .nine-or-less))
 
 pub range-test : (s : State) → RangeTest s
 range-test s =
@@ -111,5 +111,5 @@ wait-as s w r e = subst (λ (v : Wait). WaitInRange v (s .page .flags) (s .page 
 pub packet-left : (s : State) (left : ℕ) (exchange : Bool) → InRange s → s .wait ≡ Packet left exchange → (s .page .size < width) × (1 ≤ left) × (left ≤ s .page .size / 8 + 1)
 packet-left s left exchange r e = let t = wait-as s (Packet left exchange) r e in (r .page .size-register, t .one-or-more, omega (arith, most-left (s .page .size), t .packet-or-less))
 
-pub timings-left : (s : State) (left : ℕ) → InRange s → s .wait ≡ Timings left → (1 ≤ left) × (left ≤ 9)
+pub timings-left : (s : State) (left : ℕ) → InRange s → s .wait ≡ Timings left → (1 ≤ left) × (left ≤ timingBytes)
 timings-left s left r e = let t = wait-as s (Timings left) r e in (t .one-or-more, t .nine-or-less)

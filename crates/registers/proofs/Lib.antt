@@ -2,4 +2,5 @@
 pub mod Flags
 pub mod InRange
 pub mod Bits
+pub mod Listed
 pub mod Protected

@@ -3,9 +3,10 @@ use Prim.Native.Nat.{ℕ, _+_, _/_, _%_, _<_, _≤_}
 use mathlib.Core.Path.{_≡_}
 use mathlib.Core.Bool.{Bool, true, _&&_}
 use mathlib.Core.Logic.{_↔_}
+use lib.ListN.{length}
 use lib.Dec.{eqb, leb, ltb}
-use Rattle.packet.specs.Packet.{width, packetBytes}
-use Rattle.registers.specs.Registers.{Page, State, Operand, ToPort, ToCycles, ToI2c, ToConfig, ToSize, ToWire, ToWireBit, ToWireStrong, Wait, Nothing, One, Extended, Packet, Timings, i2cSelected, spiSelected, wireSelected, bitsIn}
+use Rattle.packet.specs.Packet.{width, registerBytes, packetBytes}
+use Rattle.registers.specs.Registers.{Page, State, Operand, ToPort, ToCycles, ToI2c, ToConfig, ToSize, ToOneWire, ToOneWireBit, ToOneWireStrong, Wait, Nothing, One, Extended, Packet, Timings, i2cSelected, spiSelected, oneWireSelected, bitsIn, timingBytes, imageBytes, serialBytes}
 
 -- how many interfaces are selected
 abbrev pub selectedCount : ℕ → ℕ
@@ -18,9 +19,9 @@ operandFits ToCycles flags = true
 operandFits ToI2c flags = i2cSelected flags
 operandFits ToConfig flags = spiSelected flags
 operandFits ToSize flags = spiSelected flags
-operandFits ToWire flags = wireSelected flags
-operandFits ToWireBit flags = wireSelected flags
-operandFits ToWireStrong flags = wireSelected flags
+operandFits ToOneWire flags = oneWireSelected flags
+operandFits ToOneWireBit flags = oneWireSelected flags
+operandFits ToOneWireStrong flags = oneWireSelected flags
 
 -- a packet wait: selected, configured, "for 1 to ceil(N/8) bytes"; a timing wait: selected, "for 1 to 9"
 abbrev pub waitFits : Wait → ℕ → Bool → ℕ → Bool
@@ -28,7 +29,7 @@ waitFits Nothing flags configured n = true
 waitFits (One o) flags configured n = operandFits o flags
 waitFits Extended flags configured n = true
 waitFits (Packet left exchange) flags configured n = spiSelected flags && configured && leb 1 left && leb left (packetBytes n)
-waitFits (Timings left) flags configured n = wireSelected flags && leb 1 left && leb left 9
+waitFits (Timings left) flags configured n = oneWireSelected flags && leb 1 left && leb left timingBytes
 
 -- in the table's order: two interfaces, flag bits 5 to 7, size register over 63, SPI configuration over 7, C 6, 7, D 0, 1
 abbrev pub pageFits : Page → Bool
@@ -60,9 +61,9 @@ OperandInRange ToCycles flags = Unit {0}
 OperandInRange ToI2c flags = i2cSelected flags ≡ true
 OperandInRange ToConfig flags = spiSelected flags ≡ true
 OperandInRange ToSize flags = spiSelected flags ≡ true
-OperandInRange ToWire flags = wireSelected flags ≡ true
-OperandInRange ToWireBit flags = wireSelected flags ≡ true
-OperandInRange ToWireStrong flags = wireSelected flags ≡ true
+OperandInRange ToOneWire flags = oneWireSelected flags ≡ true
+OperandInRange ToOneWireBit flags = oneWireSelected flags ≡ true
+OperandInRange ToOneWireStrong flags = oneWireSelected flags ≡ true
 
 pub record PacketWait (flags : ℕ) (configured : Bool) (n left : ℕ) : Type 0 where
   pub spi-selected : spiSelected flags ≡ true
@@ -71,9 +72,9 @@ pub record PacketWait (flags : ℕ) (configured : Bool) (n left : ℕ) : Type 0 
   pub packet-or-less : left ≤ packetBytes n
 
 pub record TimingWait (flags left : ℕ) : Type 0 where
-  pub wire-selected : wireSelected flags ≡ true
+  pub one-wire-selected : oneWireSelected flags ≡ true
   pub one-or-more : 1 ≤ left
-  pub nine-or-less : left ≤ 9
+  pub nine-or-less : left ≤ timingBytes
 
 abbrev pub WaitInRange : Wait → ℕ → Bool → ℕ → Type 0
 WaitInRange Nothing flags configured n = Unit {0}
@@ -89,3 +90,10 @@ pub record InRange (s : State) : Type 0 where
 -- THEOREM (proofs/InRange.antt, `range-test`): the test says exactly these facts
 abbrev pub RangeTest : State → Type 0
 RangeTest s = (stateFits s ≡ true) ↔ InRange s
+
+-- the arrays of a state have their sizes
+pub record Sized (s : State) : Type 0 where
+  pub eprom : length (s .shared .eprom) ≡ imageBytes
+  pub serial : length (s .shared .serial) ≡ serialBytes
+  pub packet : length (s .page .packet) ≡ registerBytes
+  pub timings : length (s .page .timings) ≡ timingBytes

@@ -3,6 +3,7 @@ use Prim.Native.Nat.{ℕ, _+_, _*_, _/_, _%_}
 use mathlib.Core.Bool.{Bool, true}
 use mathlib.Core.List.{List}
 use lib.Dec.{eqb}
+use lib.ListN.{set, take}
 use Rattle.packet.specs.Register.{zeros}
 use Rattle.wire.specs.Action.{portB, portC, portD, setDirection, setLatch}
 pub use Rattle.registers.specs.declared.Page.{Page}
@@ -11,7 +12,7 @@ pub use Rattle.registers.specs.declared.State.{State}
 pub use Rattle.registers.specs.declared.PortRegister.{PortRegister}
 pub use Rattle.registers.specs.declared.PortRegister.the-variants.{Ddrb, Portb, Ddrc, Portc, Ddrd, Portd}
 pub use Rattle.registers.specs.declared.Operand.{Operand}
-pub use Rattle.registers.specs.declared.Operand.the-variants.{ToPort, ToCycles, ToI2c, ToConfig, ToSize, ToWire, ToWireBit, ToWireStrong}
+pub use Rattle.registers.specs.declared.Operand.the-variants.{ToPort, ToCycles, ToI2c, ToConfig, ToSize, ToOneWire, ToOneWireBit, ToOneWireStrong}
 pub use Rattle.registers.specs.declared.Wait.{Wait}
 pub use Rattle.registers.specs.declared.Wait.the-variants.{Nothing, One, Extended, Packet, Timings}
 pub use Rattle.registers.specs.declared.Fault.{Fault}
@@ -24,11 +25,14 @@ i2cSelected flags = eqb (flags % 2) 1
 abbrev pub spiSelected : ℕ → Bool
 spiSelected flags = eqb (flags / 2 % 2) 1
 
-abbrev pub wireSelected : ℕ → Bool
-wireSelected flags = eqb (flags / 4 % 2) 1
+abbrev pub oneWireSelected : ℕ → Bool
+oneWireSelected flags = eqb (flags / 4 % 2) 1
 
 abbrev pub reportsOn : ℕ → Bool
 reportsOn flags = eqb (flags / 8 % 2) 1
+
+abbrev pub autoloadOn : ℕ → Bool
+autoloadOn flags = eqb (flags / 16 % 2) 1
 
 -- CONFIG_SPI: bit 0 CPHA, 1 CPOL, 2 high bit first
 abbrev pub phaseOf : ℕ → Bool
@@ -41,8 +45,25 @@ abbrev pub highFirst : ℕ → Bool
 highFirst config = eqb (config / 4 % 2) 1
 
 -- N: "register + 1"
+abbrev pub bitsOf : ℕ → ℕ
+bitsOf size = size + 1
+
 abbrev pub bitsIn : Page → ℕ
-bitsIn p = p .size + 1
+bitsIn p = bitsOf (p .size)
+
+-- THE SIZES that 01 gives: "nine bytes" of timings, "ten bytes" of an image, "four bytes" of a serial number; and room for the bytes
+-- that a wait holds, for which nine are enough
+abbrev pub timingBytes : ℕ
+timingBytes = 9
+
+abbrev pub imageBytes : ℕ
+imageBytes = 10
+
+abbrev pub serialBytes : ℕ
+serialBytes = 4
+
+abbrev pub heldBytes : ℕ
+heldBytes = 9
 
 -- a fault's code: "81 frame, 82 overrun, 83 parity"
 abbrev pub faultCode : Fault → ℕ
@@ -92,7 +113,7 @@ protected Portc old new = keepC old new
 protected Ddrd old new = keepD old new
 protected Portd old new = keepD old new
 
--- A STATE WITH ONE PART ANOTHER
+-- A PAGE OR A STATE with one part replaced
 
 abbrev pub withFlags : Page → ℕ → Page
 withFlags p x = record { flags = x; error = p .error; ddrb = p .ddrb; portb = p .portb; ddrc = p .ddrc; portc = p .portc; ddrd = p .ddrd; portd = p .portd; config = p .config; configured = p .configured; size = p .size; packet = p .packet; timings = p .timings }
@@ -126,14 +147,30 @@ withPage s p = record { page = p; shared = s .shared; wait = s .wait; held = s .
 abbrev pub withShared : State → Shared → State
 withShared s h = record { page = s .page; shared = h; wait = s .wait; held = s .held }
 
--- waiting anew: nothing is held where a wait begins
-abbrev pub waiting : State → Wait → State
-waiting s w = record { page = s .page; shared = s .shared; wait = w; held = zeros 9 }
+-- the packet register as an exchange leaves it
+abbrev pub withReceived : State → List ℕ → State
+withReceived s r = withPage s (withPacket (s .page) r)
 
 -- waiting on, with what is held
 abbrev pub holding : State → Wait → List ℕ → State
 holding s w h = record { page = s .page; shared = s .shared; wait = w; held = h }
 
+-- waiting anew: nothing is held where a wait begins
+abbrev pub waiting : State → Wait → State
+waiting s w = holding s w (zeros heldBytes)
+
+-- the wait is over, and nothing is held
+abbrev pub ended : State → State
+ended s = waiting s Nothing
+
+-- the bytes held with one more, at its place
+abbrev pub heldWith : List ℕ → ℕ → ℕ → List ℕ
+heldWith held at byte = set held at byte
+
+-- the timings among them: the first nine
+abbrev pub timingsIn : List ℕ → List ℕ
+timingsIn held = take timingBytes held
+
 -- a new page, and nothing waited for or held
 abbrev pub settled : State → Page → State
-settled s p = record { page = p; shared = s .shared; wait = Nothing; held = zeros 9 }
+settled s p = ended (withPage s p)

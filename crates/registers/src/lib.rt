@@ -1,19 +1,30 @@
 // The state: one page of registers, what is shared, the wait, and the bytes held for it.
 ghost use mathlib.Core.Path.{_≡_};
-ghost use Prim.Native.Nat.{_+_};
-ghost use Rattle.registers.specs.Registers.{faultCode};
+ghost use Rattle.registers.specs.Registers.{faultCode, bitsOf};
 ghost use Rattle.registers.specs.Ranges.{operandFits, waitFits, pageFits, stateFits};
 
+pub mod parts;
 pub mod ports;
+
+use parts::i2c_selected;
+use parts::one_wire_selected;
+use parts::packet_bytes;
+use parts::spi_selected;
 
 // How many timing bytes there are: three groups of three.
 pub const TIMINGS: usize = 9;
 
-// Room for the bytes that a packet or a timing wait holds.
+// How many bytes an image of settings has, as the EPROM holds it.
+pub const IMAGE: usize = 10;
+
+// How many bytes the serial number has.
+pub const SERIAL: usize = 4;
+
+// Room for the bytes that a wait holds: a packet's, or the timings, which are more.
 pub const HELD: usize = 9;
 
-// The registers that each bench will have for itself: COMMON_FLAGS, ERROR, the port registers, CONFIG_SPI, the configured
-// mark, PAKET_SIZE, the packet register and the timings. Their order here says nothing; it is the one that compiles best.
+// The registers: COMMON_FLAGS, ERROR, the port registers, CONFIG_SPI, the configured mark, PAKET_SIZE, the packet register and the
+// timings. Their order here says nothing; it is the one that compiles best.
 pub struct Page {
     pub flags: u8,
     pub packet: [u8; packet::BYTES],
@@ -30,13 +41,13 @@ pub struct Page {
     pub portb: u8,
 }
 
-// What all benches share: the EPROM image, the version, the IOG count and the serial number, low byte first. Their order, too, is the
-// one that compiles best.
+// What is no register: the EPROM image, the version, the IOG count and the serial number, low byte first. Their order, too, is the one
+// that compiles best.
 pub struct Shared {
     pub cycles: u8,
-    pub serial: [u8; 4],
+    pub serial: [u8; SERIAL],
     pub version: u8,
-    pub eprom: [u8; 10],
+    pub eprom: [u8; IMAGE],
 }
 
 // A port's direction or latch register.
@@ -56,9 +67,9 @@ pub enum Operand {
     ToI2c,
     ToConfig,
     ToSize,
-    ToWire,
-    ToWireBit,
-    ToWireStrong,
+    ToOneWire,
+    ToOneWireBit,
+    ToOneWireStrong,
 }
 
 // What the bridge waits for: nothing, one operand, the byte after 1D, or so many more packet or timing bytes; `exchange` says
@@ -109,26 +120,28 @@ fn operand_fits(o: Operand, flags: u8) -> bool
     match o {
         Operand::ToPort(_) => true,
         Operand::ToCycles => true,
-        Operand::ToI2c => flags % 2 == 1,
-        Operand::ToConfig => flags / 2 % 2 == 1,
-        Operand::ToSize => flags / 2 % 2 == 1,
-        Operand::ToWire => flags / 4 % 2 == 1,
-        Operand::ToWireBit => flags / 4 % 2 == 1,
-        Operand::ToWireStrong => flags / 4 % 2 == 1,
+        Operand::ToI2c => i2c_selected(flags),
+        Operand::ToConfig => spi_selected(flags),
+        Operand::ToSize => spi_selected(flags),
+        Operand::ToOneWire => one_wire_selected(flags),
+        Operand::ToOneWireBit => one_wire_selected(flags),
+        Operand::ToOneWireStrong => one_wire_selected(flags),
     }
 }
 
 fn wait_fits(w: Wait, flags: u8, configured: bool, size: u8) -> bool
-    ensures { λ r. ⌜ r ≡ waitFits w flags configured (size + 1) ⌝ }
+    ensures { λ r. ⌜ r ≡ waitFits w flags configured (bitsOf size) ⌝ }
 {
     match w {
         Wait::Nothing => true,
         Wait::One(o) => operand_fits(o, flags),
         Wait::Extended => true,
         Wait::Packet { left, exchange: _ } => {
-            (flags / 2 % 2 == 1) & configured & (1 <= left) & (left <= size / 8 + 1)
+            spi_selected(flags) & configured & (1 <= left) & (left <= packet_bytes(size))
         }
-        Wait::Timings { left } => (flags / 4 % 2 == 1) & (1 <= left) & (left as usize <= TIMINGS),
+        Wait::Timings { left } => one_wire_selected(flags)
+            & (1 <= left)
+            & (left as usize <= TIMINGS),
     }
 }
 

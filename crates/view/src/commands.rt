@@ -32,9 +32,9 @@ fn operand_row(o: Operand) -> usize {
         Operand::ToI2c => names::find(0x22, false),
         Operand::ToConfig => names::find(0x40, false),
         Operand::ToSize => names::find(0x42, false),
-        Operand::ToWire => names::find(0x61, false),
-        Operand::ToWireBit => names::find(0x63, false),
-        Operand::ToWireStrong => names::find(0x67, false),
+        Operand::ToOneWire => names::find(0x61, false),
+        Operand::ToOneWireBit => names::find(0x63, false),
+        Operand::ToOneWireStrong => names::find(0x67, false),
     }
 }
 

@@ -1,6 +1,5 @@
--- Case by case; ceil(N/8) is the size register's eighth and one more.
+-- Case by case, the definition's own test.
 use borrow.Author.Needs.{needs}
-use Rattle.registers.proofs.InRange.{most-left}
 use Rattle.registers.proofs.wait_fits.Statement.{statement}
 use Rattle.registers.proofs.wait_fits.Tie as tie
 
@@ -13,11 +12,13 @@ wait-fits-spec =
     (λ c κs. search needs)
     (λ c. search needs)
     (λ c. search needs)
+    (λ c κs. search needs)
+    (λ c κs. search needs)
     (λ c. search needs)
-    (λ c. search needs)
+    (λ c κs. search needs)
     (λ c. search needs)
     (λ c. search needs)
     (λ c. rw (c .before .before .w .given .1) (c .operand-fits .ensures))
     (λ c. search needs)
-    (λ c. rw (c .before .w2 .given .1, ← most-left (c .before .before .before .args .size)))
-    (λ c. rw (c .before .w3 .given .1)))
+    (λ c. rw (c .before .before .before .w2 .given .1, c .before .spi-selected .ensures, c .packet-bytes .ensures))
+    (λ c. rw (c .before .before .w3 .given .1, c .one-wire-selected .ensures)))

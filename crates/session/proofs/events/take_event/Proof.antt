@@ -3,7 +3,7 @@ use borrow.Author.Needs.{needs}
 use borrow.Author.Tests.{not-true, not-false}
 use mathlib.Core.Path.{sym, _∙_}
 use lib.ListN.{length-map}
-use Rattle.commands.specs.Promises.{Sized}
+use Rattle.registers.specs.Ranges.{Sized}
 use Rattle.session.proofs.Carried.{event-refused, actions-fit, says-size, replies-fit, event-taken}
 use Rattle.session.proofs.events.take_event.Statement.{statement}
 use Rattle.session.proofs.events.take_event.Tie as tie
