@@ -24,7 +24,7 @@ use Rattle.commands.specs.Plans.{returns}
 use Rattle.commands.specs.Common.{keptFlags, withBit, commonOf, runCommon}
 use Rattle.commands.specs.I2c.{i2cOf, runI2c}
 use Rattle.commands.specs.Spi.{spiOf, runSpi}
-use Rattle.commands.specs.OneWire.{wireOf, runWire}
+use Rattle.commands.specs.OneWire.{oneWireOf, runOneWire}
 use Rattle.commands.specs.Events.{commandPlan}
 use Rattle.commands.specs.declared.Bit.the-variants.{Three, Four}
 use Rattle.commands.specs.Plans.{Plan}
@@ -34,11 +34,11 @@ use Rattle.commands.specs.declared.I2cCommand.{I2cCommand}
 use Rattle.commands.specs.declared.I2cCommand.the-variants as i
 use Rattle.commands.specs.declared.SpiCommand.{SpiCommand}
 use Rattle.commands.specs.declared.SpiCommand.the-variants as p
-use Rattle.commands.specs.declared.WireCommand.{WireCommand}
-use Rattle.commands.specs.declared.WireCommand.the-variants as w
+use Rattle.commands.specs.declared.OneWireCommand.{OneWireCommand}
+use Rattle.commands.specs.declared.OneWireCommand.the-variants as w
 use Rattle.bridge.specs.Views.{interfaceOf, contextOf}
 use Rattle.bridge.proofs.Flags.{same-interface, one-selected}
-use Rattle.bridge.proofs.Openings.{row, commonOpening, i2cOpening, spiOpening, wireOpening, commandOpening}
+use Rattle.bridge.proofs.Openings.{row, commonOpening, i2cOpening, spiOpening, oneWireOpening, commandOpening}
 use Rattle.bridge.proofs.Plans.{PlanAgrees, going-on, returns-code, sends-code, Opens, Goes, choice, unknown-row, selected-row, configured-row}
 
 module _ (page : Page) (shared : Shared) (held : List ℕ) (b : ℕ) where
@@ -55,7 +55,7 @@ module _ (page : Page) (shared : Shared) (held : List ℕ) (b : ℕ) where
   common-agrees k.ResetDevice = (refl, ap (λ (i : Interface). between (record { interface = i; configured = false; bits = 1 })) (same-interface (keptFlags (page .flags)) 0 (omega arith)))
   common-agrees k.ChooseI2c = (refl, flags-view (keptFlags (page .flags) + 1) 1 (omega arith))
   common-agrees k.ChooseSpi = (refl, flags-view (keptFlags (page .flags) + 2) 2 (omega arith))
-  common-agrees k.ChooseWire = (refl, flags-view (keptFlags (page .flags) + 4) 4 (omega arith))
+  common-agrees k.ChooseOneWire = (refl, flags-view (keptFlags (page .flags) + 4) 4 (omega arith))
   common-agrees k.ReadError = (refl, refl)
   common-agrees k.SaveToEprom = (refl, refl)
   common-agrees k.ReadFromEprom = (refl, refl)
@@ -108,25 +108,25 @@ module _ (page : Page) (shared : Shared) (held : List ℕ) (b : ℕ) where
     spi-agrees p.ExchangeAndRead = ready-row None Keep _ _ (refl, refl) (returns-code s 0x40)
     spi-agrees p.NoSpi = unknown-row s b (spiSelected (page .flags))
 
-    wire-row : (o : Operands) (e : Effect) (p : Plan) → Goes s b o e p → Opens s b (row b (Selected OneWire) o e) (cond (oneWireSelected (page .flags)) p (returns s 0x80))
-    wire-row = selected-row s b OneWire (oneWireSelected (page .flags)) (one-selected (page .flags) one .wire)
+    one-wire-row : (o : Operands) (e : Effect) (p : Plan) → Goes s b o e p → Opens s b (row b (Selected OneWire) o e) (cond (oneWireSelected (page .flags)) p (returns s 0x80))
+    one-wire-row = selected-row s b OneWire (oneWireSelected (page .flags)) (one-selected (page .flags) one .one-wire)
 
-    wire-agrees : (c : WireCommand) → Opens s b (wireOpening b c) (cond (oneWireSelected (page .flags)) (runWire s c) (returns s 0x80))
-    wire-agrees w.SendReset = wire-row None Keep _ (refl, refl)
-    wire-agrees w.SendWire = wire-row One Keep _ (refl, refl)
-    wire-agrees w.SendWireBit = wire-row One Keep _ (refl, refl)
-    wire-agrees w.SendWireStrong = wire-row One Keep _ (refl, refl)
-    wire-agrees w.ReadWire = wire-row None Keep _ (refl, refl)
-    wire-agrees w.ReadWireBit = wire-row None Keep _ (refl, refl)
-    wire-agrees w.LoadTimings = wire-row Nine Keep _ (refl, refl)
-    wire-agrees w.ReadTimings = wire-row None Keep _ (refl, refl)
-    wire-agrees w.ReleaseDq = wire-row None Keep _ (refl, refl)
-    wire-agrees (w.PulsePb7 a c) = wire-row None Keep _ (refl, refl)
-    wire-agrees w.NoWire = unknown-row s b (oneWireSelected (page .flags))
+    one-wire-agrees : (c : OneWireCommand) → Opens s b (oneWireOpening b c) (cond (oneWireSelected (page .flags)) (runOneWire s c) (returns s 0x80))
+    one-wire-agrees w.SendReset = one-wire-row None Keep _ (refl, refl)
+    one-wire-agrees w.SendOneWire = one-wire-row One Keep _ (refl, refl)
+    one-wire-agrees w.SendOneWireBit = one-wire-row One Keep _ (refl, refl)
+    one-wire-agrees w.SendOneWireStrong = one-wire-row One Keep _ (refl, refl)
+    one-wire-agrees w.ReadOneWire = one-wire-row None Keep _ (refl, refl)
+    one-wire-agrees w.ReadOneWireBit = one-wire-row None Keep _ (refl, refl)
+    one-wire-agrees w.LoadTimings = one-wire-row Nine Keep _ (refl, refl)
+    one-wire-agrees w.ReadTimings = one-wire-row None Keep _ (refl, refl)
+    one-wire-agrees w.ReleaseDq = one-wire-row None Keep _ (refl, refl)
+    one-wire-agrees (w.PulsePb7 a c) = one-wire-row None Keep _ (refl, refl)
+    one-wire-agrees w.NoOneWire = unknown-row s b (oneWireSelected (page .flags))
 
     -- THE BYTE: the same tests choose the row and the plan
     pub command-agrees : Opens s b (commandOpening b) (commandPlan s b)
     command-agrees =
         choice s b (ltb b 0x20) _ _ _ _ (common-agrees (commonOf b))
         (choice s b (ltb b 0x40) _ _ _ _ (i2c-agrees (i2cOf b))
-        (choice s b (ltb b 0x60) _ _ _ _ (spi-agrees (spiOf b)) (wire-agrees (wireOf b))))
+        (choice s b (ltb b 0x60) _ _ _ _ (spi-agrees (spiOf b)) (one-wire-agrees (oneWireOf b))))

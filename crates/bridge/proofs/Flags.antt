@@ -19,13 +19,13 @@ abbrev choose : Bool → Bool → Bool → Interface
 choose a b c = cond a I2C (cond b SPI (cond c OneWire NoInterface))
 
 pub same-interface : (f g : ℕ) → f % 8 ≡ g % 8 → interfaceOf f ≡ interfaceOf g
-same-interface f g h = let t = same-selected f g h in λ i. choose (eqb (t .i2c i) 1) (eqb (t .spi i) 1) (eqb (t .wire i) 1)
+same-interface f g h = let t = same-selected f g h in λ i. choose (eqb (t .i2c i) 1) (eqb (t .spi i) 1) (eqb (t .one-wire i) 1)
 
 -- A FLAG IS SET exactly if its interface is the one selected
 pub record OneSelected (flags : ℕ) : Type 0 where
   pub i2c : i2cSelected flags ≡ eqb (numberOf (interfaceOf flags)) (numberOf I2C)
   pub spi : spiSelected flags ≡ eqb (numberOf (interfaceOf flags)) (numberOf SPI)
-  pub wire : oneWireSelected flags ≡ eqb (numberOf (interfaceOf flags)) (numberOf OneWire)
+  pub one-wire : oneWireSelected flags ≡ eqb (numberOf (interfaceOf flags)) (numberOf OneWire)
 
 -- the same of three Booleans
 abbrev Apart : Bool → Bool → Bool → Type 0

@@ -13,7 +13,7 @@ use Rattle.commands.specs.Common.{commonOf}
 use Rattle.commands.specs.Extended.{extendedOf}
 use Rattle.commands.specs.I2c.{i2cOf}
 use Rattle.commands.specs.Spi.{spiOf}
-use Rattle.commands.specs.OneWire.{wireOf}
+use Rattle.commands.specs.OneWire.{oneWireOf}
 use Rattle.commands.specs.declared.CommonCommand.{CommonCommand}
 use Rattle.commands.specs.declared.CommonCommand.the-variants as k
 use Rattle.commands.specs.declared.ExtendedCommand.{ExtendedCommand}
@@ -22,8 +22,8 @@ use Rattle.commands.specs.declared.I2cCommand.{I2cCommand}
 use Rattle.commands.specs.declared.I2cCommand.the-variants as i
 use Rattle.commands.specs.declared.SpiCommand.{SpiCommand}
 use Rattle.commands.specs.declared.SpiCommand.the-variants as p
-use Rattle.commands.specs.declared.WireCommand.{WireCommand}
-use Rattle.commands.specs.declared.WireCommand.the-variants as w
+use Rattle.commands.specs.declared.OneWireCommand.{OneWireCommand}
+use Rattle.commands.specs.declared.OneWireCommand.the-variants as w
 
 -- THE ROW OF A COMMAND whose byte is b
 
@@ -34,7 +34,7 @@ abbrev pub commonOpening : ℕ → CommonCommand → Opening
 commonOpening b k.ResetDevice = row b Common None Clear
 commonOpening b k.ChooseI2c = row b Common None (Select I2C)
 commonOpening b k.ChooseSpi = row b Common None (Select SPI)
-commonOpening b k.ChooseWire = row b Common None (Select OneWire)
+commonOpening b k.ChooseOneWire = row b Common None (Select OneWire)
 commonOpening b k.ReadError = row b Common None Keep
 commonOpening b k.SaveToEprom = row b Common None Keep
 commonOpening b k.ReadFromEprom = row b Common None Keep
@@ -80,18 +80,18 @@ spiOpening b p.ReadLow = row b (Selected SPI) None Keep
 spiOpening b p.ExchangeAndRead = row b Configured None Keep
 spiOpening b p.NoSpi = Unknown
 
-abbrev pub wireOpening : ℕ → WireCommand → Opening
-wireOpening b w.SendReset = row b (Selected OneWire) None Keep
-wireOpening b w.SendWire = row b (Selected OneWire) One Keep
-wireOpening b w.SendWireBit = row b (Selected OneWire) One Keep
-wireOpening b w.SendWireStrong = row b (Selected OneWire) One Keep
-wireOpening b w.ReadWire = row b (Selected OneWire) None Keep
-wireOpening b w.ReadWireBit = row b (Selected OneWire) None Keep
-wireOpening b w.LoadTimings = row b (Selected OneWire) Nine Keep
-wireOpening b w.ReadTimings = row b (Selected OneWire) None Keep
-wireOpening b w.ReleaseDq = row b (Selected OneWire) None Keep
-wireOpening b (w.PulsePb7 unit n) = row b (Selected OneWire) None Keep
-wireOpening b w.NoWire = Unknown
+abbrev pub oneWireOpening : ℕ → OneWireCommand → Opening
+oneWireOpening b w.SendReset = row b (Selected OneWire) None Keep
+oneWireOpening b w.SendOneWire = row b (Selected OneWire) One Keep
+oneWireOpening b w.SendOneWireBit = row b (Selected OneWire) One Keep
+oneWireOpening b w.SendOneWireStrong = row b (Selected OneWire) One Keep
+oneWireOpening b w.ReadOneWire = row b (Selected OneWire) None Keep
+oneWireOpening b w.ReadOneWireBit = row b (Selected OneWire) None Keep
+oneWireOpening b w.LoadTimings = row b (Selected OneWire) Nine Keep
+oneWireOpening b w.ReadTimings = row b (Selected OneWire) None Keep
+oneWireOpening b w.ReleaseDq = row b (Selected OneWire) None Keep
+oneWireOpening b (w.PulsePb7 unit n) = row b (Selected OneWire) None Keep
+oneWireOpening b w.NoOneWire = Unknown
 
 -- ALL BYTES, by the same tests as the bridge's
 
@@ -99,7 +99,7 @@ abbrev pub commandOpening : ℕ → Opening
 commandOpening b =
     cond (ltb b 0x20) (commonOpening b (commonOf b))
     (cond (ltb b 0x40) (i2cOpening b (i2cOf b))
-    (cond (ltb b 0x60) (spiOpening b (spiOf b)) (wireOpening b (wireOf b))))
+    (cond (ltb b 0x60) (spiOpening b (spiOf b)) (oneWireOpening b (oneWireOf b))))
 
 openings : values openingOf 256 0 ≡ values commandOpening 256 0
 unfolding openingOf commands

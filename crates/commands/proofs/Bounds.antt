@@ -154,12 +154,12 @@ wave-packet q w.Stop ss m e = e
 wave-packet q (w.WriteI2c b) ss m e = e
 wave-packet q (w.ReadI2c b) ss m e = e
 wave-packet q w.Exchange ss m e = length-register registerBytes _
-wave-packet q w.ResetWire ss m e = e
-wave-packet q (w.WriteWire b) ss m e = e
-wave-packet q (w.WriteWireBit b) ss m e = e
-wave-packet q (w.WriteWireStrong b) ss m e = e
-wave-packet q w.ReadWire ss m e = e
-wave-packet q w.ReadWireBit ss m e = e
+wave-packet q w.ResetOneWire ss m e = e
+wave-packet q (w.WriteOneWire b) ss m e = e
+wave-packet q (w.WriteOneWireBit b) ss m e = e
+wave-packet q (w.WriteOneWireStrong b) ss m e = e
+wave-packet q w.ReadOneWire ss m e = e
+wave-packet q w.ReadOneWireBit ss m e = e
 
 pub event-replies : (s : State) (a : Event) (ss : List ℕ) (m : ℕ) → FewReplies s a ss m
 unfolding effectOf carriedOut

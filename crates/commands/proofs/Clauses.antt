@@ -20,13 +20,13 @@ use Rattle.commands.specs.Common.{CommonCommand, commonOf, runCommon}
 use Rattle.commands.specs.Extended.{ExtendedCommand, extendedOf, runExtended}
 use Rattle.commands.specs.I2c.{I2cCommand, i2cOf, runI2c}
 use Rattle.commands.specs.Spi.{SpiCommand, spiOf, runSpi}
-use Rattle.commands.specs.OneWire.{WireCommand, wireOf, runWire}
+use Rattle.commands.specs.OneWire.{OneWireCommand, oneWireOf, runOneWire}
 use Rattle.commands.specs.Events.{commandPlan, operandPlan, loadedPlan, bytePlan, planOf}
 use Rattle.commands.specs.declared.CommonCommand.the-variants as k
 use Rattle.commands.specs.declared.ExtendedCommand.the-variants as x
 use Rattle.commands.specs.declared.I2cCommand.the-variants as i
 use Rattle.commands.specs.declared.SpiCommand.the-variants as p
-use Rattle.commands.specs.declared.WireCommand.the-variants as w
+use Rattle.commands.specs.declared.OneWireCommand.the-variants as w
 
 -- ANSWERS THAT REJECT NOTHING
 
@@ -76,7 +76,7 @@ module _ (s : State) where
   common-clause k.ResetDevice = fine refl refl
   common-clause k.ChooseI2c = fine refl refl
   common-clause k.ChooseSpi = fine refl refl
-  common-clause k.ChooseWire = fine refl refl
+  common-clause k.ChooseOneWire = fine refl refl
   common-clause k.ReadError = fine refl refl
   common-clause k.SaveToEprom = fine refl refl
   common-clause k.ReadFromEprom = long refl refl
@@ -122,18 +122,18 @@ module _ (s : State) where
   spi-clause p.ExchangeAndRead = either (Clause s) (s .page .configured) _ _ (long refl refl) (coded 0x40 refl)
   spi-clause p.NoSpi = coded 0x80 refl
 
-  wire-clause : (c : WireCommand) → Clause s (runWire s c)
-  wire-clause w.SendReset = fine refl refl
-  wire-clause w.SendWire = fine refl refl
-  wire-clause w.SendWireBit = fine refl refl
-  wire-clause w.SendWireStrong = fine refl refl
-  wire-clause w.ReadWire = fine refl refl
-  wire-clause w.ReadWireBit = fine refl refl
-  wire-clause w.LoadTimings = fine refl refl
-  wire-clause w.ReadTimings = long refl refl
-  wire-clause w.ReleaseDq = fine refl refl
-  wire-clause (w.PulsePb7 a b) = fine refl refl
-  wire-clause w.NoWire = coded 0x80 refl
+  one-wire-clause : (c : OneWireCommand) → Clause s (runOneWire s c)
+  one-wire-clause w.SendReset = fine refl refl
+  one-wire-clause w.SendOneWire = fine refl refl
+  one-wire-clause w.SendOneWireBit = fine refl refl
+  one-wire-clause w.SendOneWireStrong = fine refl refl
+  one-wire-clause w.ReadOneWire = fine refl refl
+  one-wire-clause w.ReadOneWireBit = fine refl refl
+  one-wire-clause w.LoadTimings = fine refl refl
+  one-wire-clause w.ReadTimings = long refl refl
+  one-wire-clause w.ReleaseDq = fine refl refl
+  one-wire-clause (w.PulsePb7 a b) = fine refl refl
+  one-wire-clause w.NoOneWire = coded 0x80 refl
 
   command-clause : (b : ℕ) → Clause s (commandPlan s b)
   command-clause b =
@@ -141,7 +141,7 @@ module _ (s : State) where
       either (Clause s) (ltb b 0x20) _ _ (common-clause (commonOf b))
       (either (Clause s) (ltb b 0x40) _ _ (either (Clause s) (i2cSelected (s .page .flags)) _ _ (i2c-clause (i2cOf b)) unknown)
       (either (Clause s) (ltb b 0x60) _ _ (either (Clause s) (spiSelected (s .page .flags)) _ _ (spi-clause (spiOf b)) unknown)
-      (either (Clause s) (oneWireSelected (s .page .flags)) _ _ (wire-clause (wireOf b)) unknown)))
+      (either (Clause s) (oneWireSelected (s .page .flags)) _ _ (one-wire-clause (oneWireOf b)) unknown)))
 
   operand-clause : (a : Operand) (b : ℕ) → Clause s (operandPlan s a b)
   operand-clause (o.ToPort a) b = fine refl refl

@@ -24,14 +24,14 @@ use Rattle.commands.specs.Common.{Three, Four, CommonCommand, resetPage,
 use Rattle.commands.specs.Extended.{ExtendedCommand, extendedOf, runExtended}
 use Rattle.commands.specs.I2c.{I2cCommand, i2cOf, runI2c}
 use Rattle.commands.specs.Spi.{SpiCommand, spiOf, runSpi}
-use Rattle.commands.specs.OneWire.{WireCommand, wireOf, runWire}
+use Rattle.commands.specs.OneWire.{OneWireCommand, oneWireOf, runOneWire}
 use Rattle.commands.specs.Events.{commandPlan, operandPlan, packetPlan, timingsPlan, loadedPlan, bytePlan, planOf, effectOf}
 use Rattle.commands.specs.Promises.{Keeps}
 use Rattle.commands.specs.declared.CommonCommand.the-variants as k
 use Rattle.commands.specs.declared.ExtendedCommand.the-variants as x
 use Rattle.commands.specs.declared.I2cCommand.the-variants as i
 use Rattle.commands.specs.declared.SpiCommand.the-variants as p
-use Rattle.commands.specs.declared.WireCommand.the-variants as w
+use Rattle.commands.specs.declared.OneWireCommand.the-variants as w
 use Rattle.commands.proofs.Choices.{at-most}
 use Rattle.commands.proofs.KeptParts.{page-register, protected-fits, bit-fits, register-fits, flag-count, page-flags, idle-page, waits, settles, Kept, kept-cond}
 
@@ -56,7 +56,7 @@ module _ (s : State) (n : InRange s) where
   common-keeps e k.ResetDevice = idle-page s (resetPage (s .page)) e (reset-keeps (s .page) q)
   common-keeps e k.ChooseI2c = idle-page s _ e (chosen-keeps (s .page) 1 q (omega arith) (omega arith))
   common-keeps e k.ChooseSpi = idle-page s _ e (chosen-keeps (s .page) 2 q (omega arith) (omega arith))
-  common-keeps e k.ChooseWire = idle-page s _ e (chosen-keeps (s .page) 4 q (omega arith) (omega arith))
+  common-keeps e k.ChooseOneWire = idle-page s _ e (chosen-keeps (s .page) 4 q (omega arith) (omega arith))
   common-keeps e k.ReadError = record { page = q; wait = n .wait }
   common-keeps e k.SaveToEprom = record { page = q; wait = n .wait }
   common-keeps e k.ReadFromEprom = n
@@ -108,19 +108,19 @@ module _ (s : State) (n : InRange s) where
   spi-keeps t p.ExchangeAndRead = kept-cond (s .page .configured) _ _ (λ c. n) (λ c. n)
   spi-keeps t p.NoSpi = n
 
-  wire-keeps : oneWireSelected (s .page .flags) ≡ true → (c : WireCommand) → Kept (runWire s c)
+  one-wire-keeps : oneWireSelected (s .page .flags) ≡ true → (c : OneWireCommand) → Kept (runOneWire s c)
   unfolding q Kept
-  wire-keeps t w.SendReset = n
-  wire-keeps t w.SendWire = waits s (v.One o.ToOneWire) q t
-  wire-keeps t w.SendWireBit = waits s (v.One o.ToOneWireBit) q t
-  wire-keeps t w.SendWireStrong = waits s (v.One o.ToOneWireStrong) q t
-  wire-keeps t w.ReadWire = n
-  wire-keeps t w.ReadWireBit = n
-  wire-keeps t w.LoadTimings = waits s (v.Timings 9) q (record { one-wire-selected = t; one-or-more = omega arith; nine-or-less = omega arith })
-  wire-keeps t w.ReadTimings = n
-  wire-keeps t w.ReleaseDq = n
-  wire-keeps t (w.PulsePb7 a b) = n
-  wire-keeps t w.NoWire = n
+  one-wire-keeps t w.SendReset = n
+  one-wire-keeps t w.SendOneWire = waits s (v.One o.ToOneWire) q t
+  one-wire-keeps t w.SendOneWireBit = waits s (v.One o.ToOneWireBit) q t
+  one-wire-keeps t w.SendOneWireStrong = waits s (v.One o.ToOneWireStrong) q t
+  one-wire-keeps t w.ReadOneWire = n
+  one-wire-keeps t w.ReadOneWireBit = n
+  one-wire-keeps t w.LoadTimings = waits s (v.Timings 9) q (record { one-wire-selected = t; one-or-more = omega arith; nine-or-less = omega arith })
+  one-wire-keeps t w.ReadTimings = n
+  one-wire-keeps t w.ReleaseDq = n
+  one-wire-keeps t (w.PulsePb7 a b) = n
+  one-wire-keeps t w.NoOneWire = n
 
   command-keeps : s .wait ≡ v.Nothing → (b : ℕ) → Kept (commandPlan s b)
   unfolding Kept
@@ -128,7 +128,7 @@ module _ (s : State) (n : InRange s) where
       kept-cond (ltb b 0x20) _ _ (λ _. common-keeps e (commonOf b))
       (λ _. kept-cond (ltb b 0x40) _ _ (λ _. kept-cond (i2cSelected (s .page .flags)) _ _ (λ t. i2c-keeps t (i2cOf b)) (λ _. n))
       (λ _. kept-cond (ltb b 0x60) _ _ (λ _. kept-cond (spiSelected (s .page .flags)) _ _ (λ t. spi-keeps t (spiOf b)) (λ _. n))
-      (λ _. kept-cond (oneWireSelected (s .page .flags)) _ _ (λ t. wire-keeps t (wireOf b)) (λ _. n))))
+      (λ _. kept-cond (oneWireSelected (s .page .flags)) _ _ (λ t. one-wire-keeps t (oneWireOf b)) (λ _. n))))
 
   config-keeps : (b : ℕ) → PageInRange (configuredAs (s .page) (b % 8))
   unfolding q

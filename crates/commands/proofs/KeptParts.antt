@@ -80,7 +80,7 @@ register-fits p r.Portd q = q .d-latch
 
 -- the low three bits decide how many interfaces are selected
 same-count : (f g : ℕ) → f % 8 ≡ g % 8 → selectedCount f ≡ selectedCount g
-same-count f g h = let t = same-selected f g h in λ i. t .i2c i + t .spi i + t .wire i
+same-count f g h = let t = same-selected f g h in λ i. t .i2c i + t .spi i + t .one-wire i
 
 -- an interface's flag beside those that are kept
 pub flag-count : (f flag : ℕ) → flag < 8 → selectedCount (keptFlags f + flag) ≡ selectedCount flag

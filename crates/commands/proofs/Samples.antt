@@ -27,14 +27,14 @@ use Rattle.commands.specs.Common.{CommonCommand, commonOf, runCommon}
 use Rattle.commands.specs.Extended.{ExtendedCommand, extendedTable, extendedOf, runExtended}
 use Rattle.commands.specs.I2c.{I2cCommand, i2cTable, i2cOf, runI2c}
 use Rattle.commands.specs.Spi.{SpiCommand, spiTable, spiOf, runSpi}
-use Rattle.commands.specs.OneWire.{WireCommand, wireTable, wireOf, runWire}
+use Rattle.commands.specs.OneWire.{OneWireCommand, oneWireTable, oneWireOf, runOneWire}
 use Rattle.commands.specs.Events.{commandPlan, operandPlan, loadedPlan, bytePlan, planOf, effectOf}
 use Rattle.commands.specs.Promises.{SamplesTaken, SameSamples}
 use Rattle.commands.specs.declared.CommonCommand.the-variants as k
 use Rattle.commands.specs.declared.ExtendedCommand.the-variants as x
 use Rattle.commands.specs.declared.I2cCommand.the-variants as i
 use Rattle.commands.specs.declared.SpiCommand.the-variants as p
-use Rattle.commands.specs.declared.WireCommand.the-variants as w
+use Rattle.commands.specs.declared.OneWireCommand.the-variants as w
 
 port-verb : (a : PortRegister) → samplesIn (verbOf a) ≡ 0
 port-verb r.Ddrb = refl
@@ -56,7 +56,7 @@ module _ (s : State) (h : s .page .size < width) (l : length (s .page .packet) �
   common-fine k.ResetDevice = tt
   common-fine k.ChooseI2c = tt
   common-fine k.ChooseSpi = tt
-  common-fine k.ChooseWire = tt
+  common-fine k.ChooseOneWire = tt
   common-fine k.ReadError = tt
   common-fine k.SaveToEprom = tt
   common-fine k.ReadFromEprom = tt
@@ -85,15 +85,15 @@ module _ (s : State) (h : s .page .size < width) (l : length (s .page .packet) �
       found (λ (c : SpiCommand). Fine (runSpi s c)) p.NoSpi b spiTable tt
       (tt, (if-configured _ _ tt tt, (tt, (tt, (if-configured _ _ tt tt, (tt, (if-configured _ _ (h, l) tt, (refl, (refl, (tt, (tt, (if-configured _ _ (h, l) tt, (if-configured _ _ tt tt, tt)))))))))))))
 
-  wire-fine : (b : ℕ) → Fine (runWire s (wireOf b))
-  wire-fine b = found (λ (c : WireCommand). Fine (runWire s c)) w.NoWire b wireTable tt (tt, (tt, (tt, (tt, (tt, (tt, (tt, (tt, (refl, (refl, (refl, tt)))))))))))
+  one-wire-fine : (b : ℕ) → Fine (runOneWire s (oneWireOf b))
+  one-wire-fine b = found (λ (c : OneWireCommand). Fine (runOneWire s c)) w.NoOneWire b oneWireTable tt (tt, (tt, (tt, (tt, (tt, (tt, (tt, (tt, (refl, (refl, (refl, tt)))))))))))
 
   command-fine : (b : ℕ) → Fine (commandPlan s b)
   command-fine b =
       either Fine (ltb b 0x20) _ _ (common-fine (commonOf b))
       (either Fine (ltb b 0x40) _ _ (either Fine (i2cSelected (s .page .flags)) _ _ (i2c-fine b) tt)
       (either Fine (ltb b 0x60) _ _ (either Fine (spiSelected (s .page .flags)) _ _ (spi-fine b) tt)
-      (either Fine (oneWireSelected (s .page .flags)) _ _ (wire-fine b) tt)))
+      (either Fine (oneWireSelected (s .page .flags)) _ _ (one-wire-fine b) tt)))
 
   operand-fine : (a : Operand) (b : ℕ) → Fine (operandPlan s a b)
   operand-fine (o.ToPort a) b = port-verb a

@@ -23,7 +23,7 @@ pub use Rattle.commands.specs.declared.CommonCommand.the-variants as k
 -- A BYTE'S COMMAND, by a table
 abbrev pub commonTable : List (Entry CommonCommand)
 commonTable =
-    0x00 is k.ResetDevice ∷ 0x01 is k.ChooseI2c ∷ 0x02 is k.ChooseSpi ∷ 0x03 is k.ChooseWire
+    0x00 is k.ResetDevice ∷ 0x01 is k.ChooseI2c ∷ 0x02 is k.ChooseSpi ∷ 0x03 is k.ChooseOneWire
     ∷ 0x04 is k.ReadError ∷ 0x05 is k.SaveToEprom ∷ 0x06 is k.ReadFromEprom
     ∷ 0x07 is k.SetReports true ∷ 0x08 is k.SetReports false ∷ 0x09 is k.SetAutoload true ∷ 0x0A is k.SetAutoload false
     ∷ 0x0B is k.SetupPort r.Ddrb ∷ 0x0C is k.ReadPort r.Ddrb ∷ 0x0D is k.SetupPort r.Portb ∷ 0x0E is k.ReadPort r.Portb
@@ -102,7 +102,7 @@ abbrev pub runCommon : State → CommonCommand → Plan
 runCommon s k.ResetDevice = performs (withPage s (resetPage (s .page))) w.Reinit
 runCommon s k.ChooseI2c = performs (withPage s (chosenPage (s .page) 1)) (w.ReinitHigh cs)
 runCommon s k.ChooseSpi = performs (withPage s (chosenPage (s .page) 2)) (w.ReinitHigh ss)
-runCommon s k.ChooseWire = performs (withPage s (chosenPage (s .page) 4)) w.Reinit
+runCommon s k.ChooseOneWire = performs (withPage s (chosenPage (s .page) 4)) w.Reinit
 -- "04 sends ERROR, then zeroes it"
 runCommon s k.ReadError = sends (withPage s (withError (s .page) 0)) (Sends (s .page .error))
 runCommon s k.SaveToEprom = returns (withShared s (withEprom (s .shared) (imageOf (s .page)))) 0x00

@@ -21,7 +21,7 @@ use Rattle.commands.specs.Common.{commonOf, runCommon}
 use Rattle.commands.specs.Extended.{extendedOf, runExtended}
 use Rattle.commands.specs.I2c.{i2cOf, runI2c}
 use Rattle.commands.specs.Spi.{spiOf, runSpi}
-use Rattle.commands.specs.OneWire.{wireOf, runWire}
+use Rattle.commands.specs.OneWire.{oneWireOf, runOneWire}
 
 -- BETWEEN COMMANDS: 20 to 3F are I2C's, 40 to 5F SPI's, 60 to 7F 1-Wire's; "An interface command without its interface selected,
 -- and any other byte: 80."
@@ -30,7 +30,7 @@ commandPlan s b =
     cond (ltb b 0x20) (runCommon s (commonOf b))
     (cond (ltb b 0x40) (cond (i2cSelected (s .page .flags)) (runI2c s (i2cOf b)) (returns s 0x80))
     (cond (ltb b 0x60) (cond (spiSelected (s .page .flags)) (runSpi s (spiOf b)) (returns s 0x80))
-    (cond (oneWireSelected (s .page .flags)) (runWire s (wireOf b)) (returns s 0x80))))
+    (cond (oneWireSelected (s .page .flags)) (runOneWire s (oneWireOf b)) (returns s 0x80))))
 
 -- AN OPERAND
 
@@ -56,9 +56,9 @@ operandPlan s o.ToConfig x = returns (settled s (configuredAs (s .page) (x % 8))
 -- 42: "register = (operand + 63) mod 64; 00"
 operandPlan s o.ToSize x = returns (settled s (withSize (s .page) (sizeRegister width x))) 0x00
 -- 61, 63, 67: "one operand, all or its low bit; 00"
-operandPlan s o.ToOneWire x = performs (settled s (s .page)) (w.WriteWire x)
-operandPlan s o.ToOneWireBit x = performs (settled s (s .page)) (w.WriteWireBit x)
-operandPlan s o.ToOneWireStrong x = performs (settled s (s .page)) (w.WriteWireStrong x)
+operandPlan s o.ToOneWire x = performs (settled s (s .page)) (w.WriteOneWire x)
+operandPlan s o.ToOneWireBit x = performs (settled s (s .page)) (w.WriteOneWireBit x)
+operandPlan s o.ToOneWireStrong x = performs (settled s (s .page)) (w.WriteOneWireStrong x)
 
 -- PACKET AND TIMING BYTES
 

@@ -30,7 +30,7 @@ pub(crate) fn decode(b: u8) -> CommonCommand
         0x00 => CommonCommand::ResetDevice,
         0x01 => CommonCommand::ChooseI2c,
         0x02 => CommonCommand::ChooseSpi,
-        0x03 => CommonCommand::ChooseWire,
+        0x03 => CommonCommand::ChooseOneWire,
         0x04 => CommonCommand::ReadError,
         0x05 => CommonCommand::SaveToEprom,
         0x06 => CommonCommand::ReadFromEprom,
@@ -119,7 +119,7 @@ pub(crate) fn run(s: State, c: CommonCommand) -> Decision
         ),
         CommonCommand::ChooseI2c => choose(s, 1, Waveform::ReinitHigh(wire::LINE_CS)),
         CommonCommand::ChooseSpi => choose(s, 2, Waveform::ReinitHigh(wire::LINE_SS)),
-        CommonCommand::ChooseWire => choose(s, 4, Waveform::Reinit),
+        CommonCommand::ChooseOneWire => choose(s, 4, Waveform::Reinit),
         CommonCommand::ReadError => decide(
             s,
             Change::ClearError,

@@ -92,15 +92,19 @@ fn operand(s: State, o: Operand, x: u8) -> Decision
             Waveform::Still,
             Answer::Returns(codes::NO_ERROR),
         ),
-        Operand::ToOneWire => settling(s, Waveform::WriteWire(x), Answer::Returns(codes::NO_ERROR)),
+        Operand::ToOneWire => settling(
+            s,
+            Waveform::WriteOneWire(x),
+            Answer::Returns(codes::NO_ERROR),
+        ),
         Operand::ToOneWireBit => settling(
             s,
-            Waveform::WriteWireBit(x),
+            Waveform::WriteOneWireBit(x),
             Answer::Returns(codes::NO_ERROR),
         ),
         Operand::ToOneWireStrong => settling(
             s,
-            Waveform::WriteWireStrong(x),
+            Waveform::WriteOneWireStrong(x),
             Answer::Returns(codes::NO_ERROR),
         ),
     }

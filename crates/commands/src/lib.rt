@@ -70,7 +70,7 @@ pub enum CommonCommand {
     ResetDevice,
     ChooseI2c,
     ChooseSpi,
-    ChooseWire,
+    ChooseOneWire,
     ReadError,
     SaveToEprom,
     ReadFromEprom,
@@ -131,18 +131,18 @@ pub enum SpiCommand {
 }
 
 // The commands of 1-Wire.
-pub enum WireCommand {
+pub enum OneWireCommand {
     SendReset,
-    SendWire,
-    SendWireBit,
-    SendWireStrong,
-    ReadWire,
-    ReadWireBit,
+    SendOneWire,
+    SendOneWireBit,
+    SendOneWireStrong,
+    ReadOneWire,
+    ReadOneWireBit,
     LoadTimings,
     ReadTimings,
     ReleaseDq,
     PulsePb7 { unit: u8, wait: u16 },
-    NoWire,
+    NoOneWire,
 }
 
 // What an event will do, before any sample is read. The caller shows that the state breaks no range.

@@ -1,10 +1,10 @@
 // The commands of 1-Wire.
 ghost use mathlib.Core.Path.{_≡_};
 ghost use Rattle.commands.specs.Changes.{decided};
-ghost use Rattle.commands.specs.OneWire.{wireOf, runWire};
+ghost use Rattle.commands.specs.OneWire.{oneWireOf, runOneWire};
 use crate::Answer;
 use crate::Decision;
-use crate::WireCommand;
+use crate::OneWireCommand;
 use crate::plans::awaiting;
 use crate::plans::make;
 use crate::plans::performing;
@@ -16,57 +16,61 @@ use registers::Wait;
 use signals::Waveform;
 
 // The 1-Wire command of a byte.
-pub(crate) fn decode(b: u8) -> WireCommand
-    ensures { λ r. ⌜ r ≡ wireOf b ⌝ }
+pub(crate) fn decode(b: u8) -> OneWireCommand
+    ensures { λ r. ⌜ r ≡ oneWireOf b ⌝ }
 {
     match b {
-        0x60 => WireCommand::SendReset,
-        0x61 => WireCommand::SendWire,
-        0x62 => WireCommand::ReadWire,
-        0x63 => WireCommand::SendWireBit,
-        0x64 => WireCommand::ReadWireBit,
-        0x65 => WireCommand::LoadTimings,
-        0x66 => WireCommand::ReadTimings,
-        0x67 => WireCommand::SendWireStrong,
-        0x68 => WireCommand::ReleaseDq,
-        0x69 => WireCommand::PulsePb7 {
+        0x60 => OneWireCommand::SendReset,
+        0x61 => OneWireCommand::SendOneWire,
+        0x62 => OneWireCommand::ReadOneWire,
+        0x63 => OneWireCommand::SendOneWireBit,
+        0x64 => OneWireCommand::ReadOneWireBit,
+        0x65 => OneWireCommand::LoadTimings,
+        0x66 => OneWireCommand::ReadTimings,
+        0x67 => OneWireCommand::SendOneWireStrong,
+        0x68 => OneWireCommand::ReleaseDq,
+        0x69 => OneWireCommand::PulsePb7 {
             unit: wire::VERB_WAIT_MICROSECONDS,
             wait: 580,
         },
-        0x6A => WireCommand::PulsePb7 {
+        0x6A => OneWireCommand::PulsePb7 {
             unit: wire::VERB_WAIT_MILLISECONDS,
             wait: 110,
         },
-        _ => WireCommand::NoWire,
+        _ => OneWireCommand::NoOneWire,
     }
 }
 
 // What a 1-Wire command does.
-pub(crate) fn run(s: State, c: WireCommand) -> Decision
-    ensures { λ r. ⌜ decided s r ≡ runWire s c ⌝ }
+pub(crate) fn run(s: State, c: OneWireCommand) -> Decision
+    ensures { λ r. ⌜ decided s r ≡ runOneWire s c ⌝ }
 {
     match c {
-        WireCommand::SendReset => make(s, Waveform::ResetWire, Answer::Checked(codes::NO_PRESENCE)),
-        WireCommand::SendWire => awaiting(s, Wait::One(Operand::ToOneWire)),
-        WireCommand::SendWireBit => awaiting(s, Wait::One(Operand::ToOneWireBit)),
-        WireCommand::SendWireStrong => awaiting(s, Wait::One(Operand::ToOneWireStrong)),
-        WireCommand::ReadWire => make(s, Waveform::ReadWire, Answer::SendsSample),
-        WireCommand::ReadWireBit => make(s, Waveform::ReadWireBit, Answer::SendsLevel),
-        WireCommand::LoadTimings => awaiting(
+        OneWireCommand::SendReset => make(
+            s,
+            Waveform::ResetOneWire,
+            Answer::Checked(codes::NO_PRESENCE),
+        ),
+        OneWireCommand::SendOneWire => awaiting(s, Wait::One(Operand::ToOneWire)),
+        OneWireCommand::SendOneWireBit => awaiting(s, Wait::One(Operand::ToOneWireBit)),
+        OneWireCommand::SendOneWireStrong => awaiting(s, Wait::One(Operand::ToOneWireStrong)),
+        OneWireCommand::ReadOneWire => make(s, Waveform::ReadOneWire, Answer::SendsSample),
+        OneWireCommand::ReadOneWireBit => make(s, Waveform::ReadOneWireBit, Answer::SendsLevel),
+        OneWireCommand::LoadTimings => awaiting(
             s,
             Wait::Timings {
                 left: registers::TIMINGS as u8,
             },
         ),
-        WireCommand::ReadTimings => sending(s, Answer::SendsTimings),
-        WireCommand::ReleaseDq => performing(
+        OneWireCommand::ReadTimings => sending(s, Answer::SendsTimings),
+        OneWireCommand::ReleaseDq => performing(
             s,
             Waveform::Line {
                 verb: wire::VERB_RELEASE,
                 line: wire::LINE_DQ,
             },
         ),
-        WireCommand::PulsePb7 { unit, wait } => performing(s, Waveform::Pb7Pulse { unit, wait }),
-        WireCommand::NoWire => returning(s, codes::UNKNOWN_COMMAND),
+        OneWireCommand::PulsePb7 { unit, wait } => performing(s, Waveform::Pb7Pulse { unit, wait }),
+        OneWireCommand::NoOneWire => returning(s, codes::UNKNOWN_COMMAND),
     }
 }

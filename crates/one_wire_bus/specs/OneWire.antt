@@ -42,9 +42,9 @@ abbrev pub lowFirst : ℕ → List ℕ
 lowFirst byte = reverse (byteBits byte)
 
 -- 61, 63, 67: the low n bits of a byte; the last one's fifth action has the verb given, the others' releases
-unfoldable pub wireWrite : Waits → ℕ → ℕ → ℕ → List Action
-wireWrite w n fifth byte = each (writeSlot w release) (take (n - 1) (lowFirst byte)) ++ writeSlot w fifth (getD (lowFirst byte) (n - 1) 0)
+unfoldable pub oneWireWrite : Waits → ℕ → ℕ → ℕ → List Action
+oneWireWrite w n fifth byte = each (writeSlot w release) (take (n - 1) (lowFirst byte)) ++ writeSlot w fifth (getD (lowFirst byte) (n - 1) 0)
 
 -- 62, 64: n bits read
-unfoldable pub wireRead : Waits → ℕ → List Action
-wireRead w n = each (λ _. sampleSlot w) (zeros n)
+unfoldable pub oneWireRead : Waits → ℕ → List Action
+oneWireRead w n = each (λ _. sampleSlot w) (zeros n)

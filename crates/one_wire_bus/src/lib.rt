@@ -6,7 +6,7 @@ ghost use lib.ListN.{length, take};
 ghost use Rattle.wire.specs.Action.{action, bytesOf, release, dq};
 ghost use Rattle.wire.specs.Buffer.{Written};
 ghost use Rattle.lines.specs.Lines.{each, waits};
-ghost use Rattle.one_wire_bus.specs.OneWire.{groupWaits, resetWaits, writeWaits, readWaits, slot, writeSlot, sampleSlot, lowFirst, wireWrite, wireRead};
+ghost use Rattle.one_wire_bus.specs.OneWire.{groupWaits, resetWaits, writeWaits, readWaits, slot, writeSlot, sampleSlot, lowFirst, oneWireWrite, oneWireRead};
 use registers::TIMINGS;
 
 const RELEASE: u8 = wire::VERB_RELEASE;
@@ -102,8 +102,8 @@ fn put_bits(out: &mut [u8], w: Waits, n: u8, byte: u8) -> usize
 // The low n bits of a byte, low bit first; the last slot's fifth action has the verb given. The caller shows that n is 1 to 8 and
 // that the actions fit.
 pub fn write(out: &mut [u8], ts: [u8; TIMINGS], n: u8, fifth: u8, byte: u8) -> usize
-    requires { ⌜ ((1 ≤ n) × (n ≤ 8)) × (length (bytesOf (wireWrite (writeWaits ts) n fifth byte)) ≤ length (now out)) ⌝ }
-    ensures { λ m. ⌜ Written (now (out .entry)) 0 (bytesOf (wireWrite (writeWaits ts) n fifth byte)) (now (out .exit)) m ⌝ }
+    requires { ⌜ ((1 ≤ n) × (n ≤ 8)) × (length (bytesOf (oneWireWrite (writeWaits ts) n fifth byte)) ≤ length (now out)) ⌝ }
+    ensures { λ m. ⌜ Written (now (out .entry)) 0 (bytesOf (oneWireWrite (writeWaits ts) n fifth byte)) (now (out .exit)) m ⌝ }
 {
     let w = write_waits(ts);
     let at = put_bits(out, w, n - 1, byte);
@@ -113,8 +113,8 @@ pub fn write(out: &mut [u8], ts: [u8; TIMINGS], n: u8, fifth: u8, byte: u8) -> u
 
 // Slots of the read group for n bits. The caller shows that their actions fit.
 pub fn read(out: &mut [u8], ts: [u8; TIMINGS], n: u8) -> usize
-    requires { ⌜ length (bytesOf (wireRead (readWaits ts) n)) ≤ length (now out) ⌝ }
-    ensures { λ m. ⌜ Written (now (out .entry)) 0 (bytesOf (wireRead (readWaits ts) n)) (now (out .exit)) m ⌝ }
+    requires { ⌜ length (bytesOf (oneWireRead (readWaits ts) n)) ≤ length (now out) ⌝ }
+    ensures { λ m. ⌜ Written (now (out .entry)) 0 (bytesOf (oneWireRead (readWaits ts) n)) (now (out .exit)) m ⌝ }
 {
     let w = group_waits(1, ts[6], ts[7], ts[8]);
     let mut at: usize = 0;

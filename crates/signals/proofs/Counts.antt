@@ -9,12 +9,12 @@ use Rattle.registers.specs.Registers.{bitsIn}
 use Rattle.registers.specs.declared.Page.{Page}
 use Rattle.lines.specs.Lines.{each}
 use Rattle.i2c_bus.specs.I2c.{i2cWrite, i2cRead}
-use Rattle.one_wire_bus.specs.OneWire.{wireWrite, wireRead}
-use Rattle.signals.specs.Waveforms.{Waveform, Still, Reinit, ReinitHigh, Line, Port, PortPulse, Pb7Pulse, SampleLine, SamplePort, Start, Stop, WriteI2c, ReadI2c, Exchange, ResetWire, WriteWire, WriteWireBit, WriteWireStrong, ReadWire, ReadWireBit, waveOf}
+use Rattle.one_wire_bus.specs.OneWire.{oneWireWrite, oneWireRead}
+use Rattle.signals.specs.Waveforms.{Waveform, Still, Reinit, ReinitHigh, Line, Port, PortPulse, Pb7Pulse, SampleLine, SamplePort, Start, Stop, WriteI2c, ReadI2c, Exchange, ResetOneWire, WriteOneWire, WriteOneWireBit, WriteOneWireStrong, ReadOneWire, ReadOneWireBit, waveOf}
 use Rattle.spi_bus.proofs.Exchanges.{exchange-most}
 
 pub wave-few : (p : Page) (w : Waveform) (ss : List ℕ) (s : ℕ) → p .size < width → length ((waveOf p w ss s) .actions) ≤ 1 + 4 * width
-unfolding waveOf each byteBits i2cWrite i2cRead wireWrite wireRead
+unfolding waveOf each byteBits i2cWrite i2cRead oneWireWrite oneWireRead
 wave-few p Still ss s h = omega arith
 wave-few p Reinit ss s h = omega arith
 wave-few p (ReinitHigh a) ss s h = omega arith
@@ -29,9 +29,9 @@ wave-few p Stop ss s h = omega arith
 wave-few p (WriteI2c a) ss s h = omega arith
 wave-few p (ReadI2c a) ss s h = omega arith
 wave-few p Exchange ss s h = omega (arith, exchange-most (bitsIn p) (p .config) (p .packet))
-wave-few p ResetWire ss s h = omega arith
-wave-few p (WriteWire a) ss s h = omega arith
-wave-few p (WriteWireBit a) ss s h = omega arith
-wave-few p (WriteWireStrong a) ss s h = omega arith
-wave-few p ReadWire ss s h = omega arith
-wave-few p ReadWireBit ss s h = omega arith
+wave-few p ResetOneWire ss s h = omega arith
+wave-few p (WriteOneWire a) ss s h = omega arith
+wave-few p (WriteOneWireBit a) ss s h = omega arith
+wave-few p (WriteOneWireStrong a) ss s h = omega arith
+wave-few p ReadOneWire ss s h = omega arith
+wave-few p ReadOneWireBit ss s h = omega arith

@@ -17,7 +17,7 @@ use Rattle.i2c_bus.proofs.Samples as i2c
 use Rattle.spi_bus.proofs.Samples as spi
 use Rattle.one_wire_bus.specs.OneWire.{resetWaits, writeWaits, readWaits}
 use Rattle.one_wire_bus.proofs.Samples as wire
-use Rattle.signals.specs.Waveforms.{Waveform, Still, Reinit, ReinitHigh, Line, Port, PortPulse, Pb7Pulse, SampleLine, SamplePort, Start, Stop, WriteI2c, ReadI2c, Exchange, ResetWire, WriteWire, WriteWireBit, WriteWireStrong, ReadWire, ReadWireBit, Wave, giving, waveOf}
+use Rattle.signals.specs.Waveforms.{Waveform, Still, Reinit, ReinitHigh, Line, Port, PortPulse, Pb7Pulse, SampleLine, SamplePort, Start, Stop, WriteI2c, ReadI2c, Exchange, ResetOneWire, WriteOneWire, WriteOneWireBit, WriteOneWireStrong, ReadOneWire, ReadOneWireBit, Wave, giving, waveOf}
 use Rattle.signals.specs.Samples.{SamplesTaken, SameSamples}
 
 pub wave-takes : (p : Page) (w : Waveform) (ss : List ℕ) (m : ℕ) → SamplesTaken p w ss m
@@ -36,12 +36,12 @@ wave-takes p Stop ss m h = refl
 wave-takes p (WriteI2c x) ss m h = sym (i2c.write-takes x)
 wave-takes p (ReadI2c answer) ss m h = sym (i2c.read-takes answer)
 wave-takes p Exchange ss m h = sym (spi.exchange-takes (bitsIn p) (p .config) (p .packet) (omega (arith, h .0, h .1)))
-wave-takes p ResetWire ss m h = sym (wire.slot-takes (resetWaits (p .timings)))
-wave-takes p (WriteWire x) ss m h = sym (wire.write-takes (writeWaits (p .timings)) 8 release x refl)
-wave-takes p (WriteWireBit x) ss m h = sym (wire.write-takes (writeWaits (p .timings)) 1 release x refl)
-wave-takes p (WriteWireStrong x) ss m h = sym (wire.write-takes (writeWaits (p .timings)) 8 driveHigh x refl)
-wave-takes p ReadWire ss m h = sym (wire.read-takes (readWaits (p .timings)) 8)
-wave-takes p ReadWireBit ss m h = sym (wire.read-takes (readWaits (p .timings)) 1)
+wave-takes p ResetOneWire ss m h = sym (wire.slot-takes (resetWaits (p .timings)))
+wave-takes p (WriteOneWire x) ss m h = sym (wire.write-takes (writeWaits (p .timings)) 8 release x refl)
+wave-takes p (WriteOneWireBit x) ss m h = sym (wire.write-takes (writeWaits (p .timings)) 1 release x refl)
+wave-takes p (WriteOneWireStrong x) ss m h = sym (wire.write-takes (writeWaits (p .timings)) 8 driveHigh x refl)
+wave-takes p ReadOneWire ss m h = sym (wire.read-takes (readWaits (p .timings)) 8)
+wave-takes p ReadOneWireBit ss m h = sym (wire.read-takes (readWaits (p .timings)) 1)
 
 -- THE SAME SAMPLES
 
@@ -69,9 +69,9 @@ wave-same p (WriteI2c x) ss m us k h = byte-same p _ 1 (first-same 0 ss us m k h
 wave-same p (ReadI2c answer) ss m us k h = byte-same p _ 8 (ap (byteOf true) (levels-same 8 ss us m k h))
 wave-same p Exchange ss m us k h =
     packet-same _ (bitsIn p) (ap (λ (ls : List ℕ). register registerBytes (received width (highFirst (p .config)) ls)) (levels-same (bitsIn p) ss us m k h))
-wave-same p ResetWire ss m us k h = byte-same p _ 1 (first-same 0 ss us m k h)
-wave-same p (WriteWire x) ss m us k h = refl
-wave-same p (WriteWireBit x) ss m us k h = refl
-wave-same p (WriteWireStrong x) ss m us k h = refl
-wave-same p ReadWire ss m us k h = byte-same p _ 8 (ap (byteOf false) (levels-same 8 ss us m k h))
-wave-same p ReadWireBit ss m us k h = byte-same p _ 1 (first-same 0 ss us m k h)
+wave-same p ResetOneWire ss m us k h = byte-same p _ 1 (first-same 0 ss us m k h)
+wave-same p (WriteOneWire x) ss m us k h = refl
+wave-same p (WriteOneWireBit x) ss m us k h = refl
+wave-same p (WriteOneWireStrong x) ss m us k h = refl
+wave-same p ReadOneWire ss m us k h = byte-same p _ 8 (ap (byteOf false) (levels-same 8 ss us m k h))
+wave-same p ReadOneWireBit ss m us k h = byte-same p _ 1 (first-same 0 ss us m k h)

@@ -6,7 +6,7 @@ use lib.ListN.{length}
 use Rattle.packet.specs.Packet.{width, registerBytes}
 use Rattle.registers.specs.declared.Page.{Page}
 use Rattle.wire.specs.Sample.{samplesIn, samplings, SameFrom}
-use Rattle.signals.specs.Waveforms.{Waveform, Still, Reinit, ReinitHigh, Line, Port, PortPulse, Pb7Pulse, SampleLine, SamplePort, Start, Stop, WriteI2c, ReadI2c, Exchange, ResetWire, WriteWire, WriteWireBit, WriteWireStrong, ReadWire, ReadWireBit, waveOf}
+use Rattle.signals.specs.Waveforms.{Waveform, Still, Reinit, ReinitHigh, Line, Port, PortPulse, Pb7Pulse, SampleLine, SamplePort, Start, Stop, WriteI2c, ReadI2c, Exchange, ResetOneWire, WriteOneWire, WriteOneWireBit, WriteOneWireStrong, ReadOneWire, ReadOneWireBit, waveOf}
 
 -- what a plan shows of its waveform: the verb that its name carries samples nothing; an exchange is of 1 to 64 bits of a whole register
 abbrev pub Allowed : Page → Waveform → Type 0
@@ -24,12 +24,12 @@ Allowed p Stop = Unit {0}
 Allowed p (WriteI2c x) = Unit {0}
 Allowed p (ReadI2c answer) = Unit {0}
 Allowed p Exchange = (p .size < width) × (length (p .packet) ≡ registerBytes)
-Allowed p ResetWire = Unit {0}
-Allowed p (WriteWire x) = Unit {0}
-Allowed p (WriteWireBit x) = Unit {0}
-Allowed p (WriteWireStrong x) = Unit {0}
-Allowed p ReadWire = Unit {0}
-Allowed p ReadWireBit = Unit {0}
+Allowed p ResetOneWire = Unit {0}
+Allowed p (WriteOneWire x) = Unit {0}
+Allowed p (WriteOneWireBit x) = Unit {0}
+Allowed p (WriteOneWireStrong x) = Unit {0}
+Allowed p ReadOneWire = Unit {0}
+Allowed p ReadOneWireBit = Unit {0}
 
 -- THEOREM (proofs/Samples.antt, `wave-takes`): a waveform uses as many samples as it has actions that sample
 abbrev pub SamplesTaken : Page → Waveform → List ℕ → ℕ → Type 0

@@ -11,9 +11,9 @@ use Rattle.wire.specs.Sample.{byteAt}
 use Rattle.lines.specs.Lines.{low, high, sampled, levels, byteOf, reinit}
 use Rattle.i2c_bus.specs.I2c.{i2cStart, i2cStop, i2cWrite, i2cRead}
 use Rattle.spi_bus.specs.Spi.{spiExchange}
-use Rattle.one_wire_bus.specs.OneWire.{resetWaits, writeWaits, readWaits, sampleSlot, wireWrite, wireRead}
+use Rattle.one_wire_bus.specs.OneWire.{resetWaits, writeWaits, readWaits, sampleSlot, oneWireWrite, oneWireRead}
 pub use Rattle.signals.specs.declared.Waveform.{Waveform}
-pub use Rattle.signals.specs.declared.Waveform.the-variants.{Still, Reinit, ReinitHigh, Line, Port, PortPulse, Pb7Pulse, SampleLine, SamplePort, Start, Stop, WriteI2c, ReadI2c, Exchange, ResetWire, WriteWire, WriteWireBit, WriteWireStrong, ReadWire, ReadWireBit}
+pub use Rattle.signals.specs.declared.Waveform.the-variants.{Still, Reinit, ReinitHigh, Line, Port, PortPulse, Pb7Pulse, SampleLine, SamplePort, Start, Stop, WriteI2c, ReadI2c, Exchange, ResetOneWire, WriteOneWire, WriteOneWireBit, WriteOneWireStrong, ReadOneWire, ReadOneWireBit}
 
 -- the actions, the samples used, the byte that they give (a single sample as it stands), and the packet register after them
 pub record Wave : Type 0 where
@@ -55,9 +55,9 @@ waveOf p Exchange ss s = record {
   byte = 0;
   packet = register registerBytes (received width (highFirst (p .config)) (levels ss s (bitsIn p)));
 }
-waveOf p ResetWire ss s = once p (sampleSlot (resetWaits (p .timings))) ss s
-waveOf p (WriteWire x) ss s = quiet p (wireWrite (writeWaits (p .timings)) 8 release x)
-waveOf p (WriteWireBit x) ss s = quiet p (wireWrite (writeWaits (p .timings)) 1 release x)
-waveOf p (WriteWireStrong x) ss s = quiet p (wireWrite (writeWaits (p .timings)) 8 driveHigh x)
-waveOf p ReadWire ss s = giving p (wireRead (readWaits (p .timings)) 8) 8 (byteOf false (levels ss s 8))
-waveOf p ReadWireBit ss s = once p (wireRead (readWaits (p .timings)) 1) ss s
+waveOf p ResetOneWire ss s = once p (sampleSlot (resetWaits (p .timings))) ss s
+waveOf p (WriteOneWire x) ss s = quiet p (oneWireWrite (writeWaits (p .timings)) 8 release x)
+waveOf p (WriteOneWireBit x) ss s = quiet p (oneWireWrite (writeWaits (p .timings)) 1 release x)
+waveOf p (WriteOneWireStrong x) ss s = quiet p (oneWireWrite (writeWaits (p .timings)) 8 driveHigh x)
+waveOf p ReadOneWire ss s = giving p (oneWireRead (readWaits (p .timings)) 8) 8 (byteOf false (levels ss s 8))
+waveOf p ReadOneWireBit ss s = once p (oneWireRead (readWaits (p .timings)) 1) ss s

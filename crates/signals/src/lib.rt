@@ -47,12 +47,12 @@ pub enum Waveform {
     WriteI2c(u8),
     ReadI2c(u8),
     Exchange,
-    ResetWire,
-    WriteWire(u8),
-    WriteWireBit(u8),
-    WriteWireStrong(u8),
-    ReadWire,
-    ReadWireBit,
+    ResetOneWire,
+    WriteOneWire(u8),
+    WriteOneWireBit(u8),
+    WriteOneWireStrong(u8),
+    ReadOneWire,
+    ReadOneWireBit,
 }
 
 // What the samples give, and how many bytes the actions take.
@@ -140,12 +140,12 @@ pub fn sense(page: Page, wave: Waveform, samples: &[u8], from: usize) -> Sensed
         Waveform::WriteI2c(_) => once(kept, 28, samples, from),
         Waveform::ReadI2c(_) => eight(kept, 35, samples, from, true),
         Waveform::Exchange => exchanged(page, samples, from),
-        Waveform::ResetWire => once(kept, 6, samples, from),
-        Waveform::WriteWire(_) => quiet(kept, 48),
-        Waveform::WriteWireBit(_) => quiet(kept, 6),
-        Waveform::WriteWireStrong(_) => quiet(kept, 48),
-        Waveform::ReadWire => eight(kept, 48, samples, from, false),
-        Waveform::ReadWireBit => once(kept, 6, samples, from),
+        Waveform::ResetOneWire => once(kept, 6, samples, from),
+        Waveform::WriteOneWire(_) => quiet(kept, 48),
+        Waveform::WriteOneWireBit(_) => quiet(kept, 6),
+        Waveform::WriteOneWireStrong(_) => quiet(kept, 48),
+        Waveform::ReadOneWire => eight(kept, 48, samples, from, false),
+        Waveform::ReadOneWireBit => once(kept, 6, samples, from),
     }
 }
 
@@ -178,11 +178,17 @@ pub fn write(out: &mut [u8], page: Page, wave: Waveform, samples: &[u8], from: u
         Waveform::WriteI2c(x) => i2c_bus::write(out, x),
         Waveform::ReadI2c(answer) => i2c_bus::read(out, answer),
         Waveform::Exchange => spi_bus::put_exchange(out, r, page.size + 1, page.config),
-        Waveform::ResetWire => one_wire_bus::reset(out, ts),
-        Waveform::WriteWire(x) => one_wire_bus::write(out, ts, 8, wire::VERB_RELEASE, x),
-        Waveform::WriteWireBit(x) => one_wire_bus::write(out, ts, 1, wire::VERB_RELEASE, x),
-        Waveform::WriteWireStrong(x) => one_wire_bus::write(out, ts, 8, wire::VERB_DRIVE_HIGH, x),
-        Waveform::ReadWire => one_wire_bus::read(out, ts, 8),
-        Waveform::ReadWireBit => one_wire_bus::read(out, ts, 1),
+        Waveform::ResetOneWire => one_wire_bus::reset(out, ts),
+        Waveform::WriteOneWire(x) => one_wire_bus::write(out, ts, 8, wire::VERB_RELEASE, x),
+        Waveform::WriteOneWireBit(x) => one_wire_bus::write(out, ts, 1, wire::VERB_RELEASE, x),
+        Waveform::WriteOneWireStrong(x) => one_wire_bus::write(
+            out,
+            ts,
+            8,
+            wire::VERB_DRIVE_HIGH,
+            x,
+        ),
+        Waveform::ReadOneWire => one_wire_bus::read(out, ts, 8),
+        Waveform::ReadOneWireBit => one_wire_bus::read(out, ts, 1),
     }
 }

@@ -8,7 +8,7 @@ use native.Mathlib.Omega.{arith}
 use lib.ListN.{length}
 use Rattle.wire.specs.Action.{Action, bytesOf}
 use Rattle.packet.specs.Register.{zeros}
-use Rattle.one_wire_bus.specs.OneWire.{sampleSlot, wireRead}
+use Rattle.one_wire_bus.specs.OneWire.{sampleSlot, oneWireRead}
 use Rattle.one_wire_bus.specs.declared.Waits.{Waits}
 use Rattle.lines.proofs.Rows.{Owed, owed-all, owed-within, owed-fits, owed-turn, owed-none, same-written, same-room}
 use Rattle.one_wire_bus.proofs.Slots.{length-zeros}
@@ -25,7 +25,7 @@ abbrev μ-loop : tie.MeasureT-loop
 μ-loop out₀ n w at₀ i₀ out at i = n - i
 
 pub read-spec : {M : Type 1} → statement M
-unfolding wireRead
+unfolding oneWireRead
 read-spec =
     tie.close
     (tie.spec
@@ -43,7 +43,7 @@ read-spec =
     let m = c .before .before in
     let g = m .before in
     let s = g .before .before in
-    owed-fits (row (g .group-waits .result)) (zeros (s .args .n)) (m .loop .inv .2) (omega (arith, length-zeros (s .args .n))) refl (rw zero-add (same-room (ap (λ (w : Waits). bytesOf (wireRead w (s .args .n))) (sym (g .group-waits .ensures))) (s .pre))))
+    owed-fits (row (g .group-waits .result)) (zeros (s .args .n)) (m .loop .inv .2) (omega (arith, length-zeros (s .args .n))) refl (rw zero-add (same-room (ap (λ (w : Waits). bytesOf (oneWireRead w (s .args .n))) (sym (g .group-waits .ensures))) (s .pre))))
     (λ c. search needs)
     (λ c. search needs)
     (λ c. search needs)
@@ -53,10 +53,10 @@ read-spec =
     let g = m .before in
     let s = g .before .before in
     let o = owed-turn (row (g .group-waits .result)) (zeros (s .args .n)) (m .loop .inv .2) (omega (arith, length-zeros (s .args .n))) refl (p .put-slot .ensures) in
-    (omega arith, owed-within o (rw zero-add (same-room (ap (λ (w : Waits). bytesOf (wireRead w (s .args .n))) (sym (g .group-waits .ensures))) (s .pre))), o))
+    (omega arith, owed-within o (rw zero-add (same-room (ap (λ (w : Waits). bytesOf (oneWireRead w (s .args .n))) (sym (g .group-waits .ensures))) (s .pre))), o))
     (λ c. c .before .loop .inv .2 .size)
     (λ c.
     let m = c .before in
     let g = m .before in
     let s = g .before .before in
-    same-written (ap (λ (w : Waits). bytesOf (wireRead w (s .args .n))) (sym (g .group-waits .ensures))) (owed-none (row (g .group-waits .result)) _ (m .loop .inv .2) (omega (arith, length-zeros (s .args .n))))))
+    same-written (ap (λ (w : Waits). bytesOf (oneWireRead w (s .args .n))) (sym (g .group-waits .ensures))) (owed-none (row (g .group-waits .result)) _ (m .loop .inv .2) (omega (arith, length-zeros (s .args .n))))))

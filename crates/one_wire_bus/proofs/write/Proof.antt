@@ -7,7 +7,7 @@ use native.Mathlib.Omega.{arith}
 use lib.ListN.{length, getD, take}
 use Rattle.wire.specs.Action.{Action, bytesOf, release}
 use Rattle.lines.specs.Lines.{verbFor, each}
-use Rattle.one_wire_bus.specs.OneWire.{writeSlot, lowFirst, wireWrite}
+use Rattle.one_wire_bus.specs.OneWire.{writeSlot, lowFirst, oneWireWrite}
 use Rattle.one_wire_bus.specs.declared.Waits.{Waits}
 use Rattle.lines.proofs.Rows.{joined, first-fits, second-within, second-fits, same-written, same-room}
 use Rattle.one_wire_bus.proofs.Slots.{low-at}
@@ -23,11 +23,11 @@ last g = writeSlot (g .write-waits .result) (g .before .before .args .fifth) (ge
 
 -- both fit
 all-fit : (g : tie.After-write-waits) → length (bytesOf (first g ++ last g)) ≤ length (g .before .before .args .out .now)
-unfolding wireWrite
-all-fit g = let s = g .before .before in same-room (ap (λ (w : Waits). bytesOf (wireWrite w (s .args .n) (s .args .fifth) (s .args .byte))) (sym (g .write-waits .ensures))) (s .pre .1)
+unfolding oneWireWrite
+all-fit g = let s = g .before .before in same-room (ap (λ (w : Waits). bytesOf (oneWireWrite w (s .args .n) (s .args .fifth) (s .args .byte))) (sym (g .write-waits .ensures))) (s .pre .1)
 
 pub write-spec : {M : Type 1} → statement M
-unfolding wireWrite
+unfolding oneWireWrite
 write-spec =
     tie.close
     (tie.spec
@@ -52,6 +52,6 @@ write-spec =
     let n = s .args .n in
     let byte = s .args .byte in
     let fifth = s .args .fifth in
-    let e = ap (λ (w : Waits). bytesOf (wireWrite w n fifth byte)) (sym (g .write-waits .ensures)) in
+    let e = ap (λ (w : Waits). bytesOf (oneWireWrite w n fifth byte)) (sym (g .write-waits .ensures)) in
     let x : v .verb-for .result ≡ verbFor release (getD (lowFirst byte) (n - 1) 0) = v .verb-for .ensures ∙ ap (verbFor release) (sym (low-at byte (n - 1) (omega (arith, s .pre .0 .0, s .pre .0 .1)))) in
     same-written e (joined (first g) (last g) (p .put-bits .ensures) (rw x at (q .put-slot .ensures)))))

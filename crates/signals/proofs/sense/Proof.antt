@@ -7,7 +7,7 @@ use Rattle.packet.specs.Register.{byteBits}
 use Rattle.registers.specs.declared.Page.{Page}
 use Rattle.lines.specs.Lines.{each}
 use Rattle.i2c_bus.specs.I2c.{i2cWrite, i2cRead}
-use Rattle.one_wire_bus.specs.OneWire.{wireWrite, wireRead}
+use Rattle.one_wire_bus.specs.OneWire.{oneWireWrite, oneWireRead}
 use Rattle.signals.specs.Waveforms.{Waveform, waveOf}
 use Rattle.signals.specs.Sensed.{Sensed, senseOf}
 use Rattle.signals.proofs.sense.Statement.{statement}
@@ -18,7 +18,7 @@ told : (p : Page) {w : Waveform} (v : Waveform) (ss : List ℕ) (from : ℕ) {r 
 told p v ss from e h = h ∙ sym (ap (λ (x : Waveform). senseOf (waveOf p x ss from)) e)
 
 pub sense-spec : {M : Type 1} → statement M
-unfolding waveOf each byteBits i2cWrite i2cRead wireWrite wireRead
+unfolding waveOf each byteBits i2cWrite i2cRead oneWireWrite oneWireRead
 sense-spec =
     tie.close
     (tie.spec

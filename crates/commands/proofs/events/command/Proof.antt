@@ -5,7 +5,7 @@ use borrow.Author.Tests.{eq-eqb, ne-eqb, lt-ltb, le-ltb}
 use Rattle.commands.specs.Common.{runCommon}
 use Rattle.commands.specs.I2c.{runI2c}
 use Rattle.commands.specs.Spi.{runSpi}
-use Rattle.commands.specs.OneWire.{runWire}
+use Rattle.commands.specs.OneWire.{runOneWire}
 use Rattle.commands.proofs.Choices.{chosen}
 use Rattle.commands.proofs.events.command.Statement.{statement}
 use Rattle.commands.proofs.events.command.Tie as tie
@@ -29,6 +29,6 @@ command-spec =
     (λ c. c .returning2 .ensures ∙ chosen _ _ _ (ne-eqb _ _ (c .before .if5 .left)) ∙ chosen _ _ _ (lt-ltb _ _ (c .before .before .if4 .taken)) ∙ chosen _ _ _ (le-ltb _ _ (c .before .before .before .if2 .left)) ∙ chosen _ _ _ (le-ltb _ _ (c .before .before .before .before .if1 .left)))
     (λ c κs. search needs)
     (λ c κs. search needs)
-    (λ c. c .run4 .ensures ∙ ap (runWire (c .before .before .before .before .before .before .args .s)) (c .before .decode4 .ensures) ∙ chosen _ _ _ (eq-eqb _ _ (c .before .before .if6 .taken)) ∙ chosen _ _ _ (le-ltb _ _ (c .before .before .before .if4 .left)) ∙ chosen _ _ _ (le-ltb _ _ (c .before .before .before .before .if2 .left)) ∙ chosen _ _ _ (le-ltb _ _ (c .before .before .before .before .before .if1 .left)))
+    (λ c. c .run4 .ensures ∙ ap (runOneWire (c .before .before .before .before .before .before .args .s)) (c .before .decode4 .ensures) ∙ chosen _ _ _ (eq-eqb _ _ (c .before .before .if6 .taken)) ∙ chosen _ _ _ (le-ltb _ _ (c .before .before .before .if4 .left)) ∙ chosen _ _ _ (le-ltb _ _ (c .before .before .before .before .if2 .left)) ∙ chosen _ _ _ (le-ltb _ _ (c .before .before .before .before .before .if1 .left)))
     (λ c κs. search needs)
     (λ c. c .returning3 .ensures ∙ chosen _ _ _ (ne-eqb _ _ (c .before .if6 .left)) ∙ chosen _ _ _ (le-ltb _ _ (c .before .before .if4 .left)) ∙ chosen _ _ _ (le-ltb _ _ (c .before .before .before .if2 .left)) ∙ chosen _ _ _ (le-ltb _ _ (c .before .before .before .before .if1 .left))))
