@@ -9,8 +9,8 @@ use Rattle.grammar.specs.Grammar.{Selected, Configured, Operands, None, One, Ni
 use Rattle.grammar.specs.Scanner.{going, between}
 use Rattle.grammar.specs.declared.Interface.{Interface}
 use Rattle.grammar.specs.declared.Interface.the-variants.{I2C, SPI, OneWire}
-use Rattle.grammar.specs.declared.Effect.{Effect}
-use Rattle.grammar.specs.declared.Effect.the-variants.{Keep, Configure, Resize}
+use Rattle.grammar.specs.declared.ContextChange.{ContextChange}
+use Rattle.grammar.specs.declared.ContextChange.the-variants.{Keep, Configure, Resize}
 use Rattle.grammar.specs.declared.Place.the-variants.{Inside}
 use Rattle.grammar.specs.declared.Scanned.the-variants.{Rejected}
 use Rattle.packet.specs.Packet.{packetBytes}
@@ -73,7 +73,7 @@ module _ (page : Page) (shared : Shared) (held : List ℕ) (b : ℕ) where
 
   -- AN INTERFACE'S COMMANDS, with the interface selected or not
   module _ (one : selectedCount (page .flags) ≤ 1) where
-    i2c-row : (o : Operands) (e : Effect) (p : Plan) → Goes s b o e p → Opens s b (row b (Selected I2C) o e) (cond (i2cSelected (page .flags)) p (returns s 0x80))
+    i2c-row : (o : Operands) (e : ContextChange) (p : Plan) → Goes s b o e p → Opens s b (row b (Selected I2C) o e) (cond (i2cSelected (page .flags)) p (returns s 0x80))
     i2c-row = selected-row s b I2C (i2cSelected (page .flags)) (one-selected (page .flags) one .i2c)
 
     i2c-agrees : (c : I2cCommand) → Opens s b (i2cOpening b c) (cond (i2cSelected (page .flags)) (runI2c s c) (returns s 0x80))
@@ -85,10 +85,10 @@ module _ (page : Page) (shared : Shared) (held : List ℕ) (b : ℕ) where
     i2c-agrees i.ReadCs = i2c-row None Keep _ (refl, refl)
     i2c-agrees i.NoI2c = unknown-row s b (i2cSelected (page .flags))
 
-    spi-row : (o : Operands) (e : Effect) (p : Plan) → Goes s b o e p → Opens s b (row b (Selected SPI) o e) (cond (spiSelected (page .flags)) p (returns s 0x80))
+    spi-row : (o : Operands) (e : ContextChange) (p : Plan) → Goes s b o e p → Opens s b (row b (Selected SPI) o e) (cond (spiSelected (page .flags)) p (returns s 0x80))
     spi-row = selected-row s b SPI (spiSelected (page .flags)) (one-selected (page .flags) one .spi)
 
-    ready-row : (o : Operands) (e : Effect) (p q : Plan) → Goes s b o e p → PlanAgrees s (Rejected 0x40) q → Opens s b (row b Configured o e) (cond (spiSelected (page .flags)) (cond (page .configured) p q) (returns s 0x80))
+    ready-row : (o : Operands) (e : ContextChange) (p q : Plan) → Goes s b o e p → PlanAgrees s (Rejected 0x40) q → Opens s b (row b Configured o e) (cond (spiSelected (page .flags)) (cond (page .configured) p q) (returns s 0x80))
     ready-row = configured-row s b (spiSelected (page .flags)) (one-selected (page .flags) one .spi)
 
     packet-view : record { context = contextOf s; place = Inside Keep (packetBytes (bitsIn page) - 1) } ≡ going Keep (packetBytes (bitsIn page)) b (contextOf s)
@@ -108,7 +108,7 @@ module _ (page : Page) (shared : Shared) (held : List ℕ) (b : ℕ) where
     spi-agrees p.ExchangeAndRead = ready-row None Keep _ _ (refl, refl) (returns-code s 0x40)
     spi-agrees p.NoSpi = unknown-row s b (spiSelected (page .flags))
 
-    one-wire-row : (o : Operands) (e : Effect) (p : Plan) → Goes s b o e p → Opens s b (row b (Selected OneWire) o e) (cond (oneWireSelected (page .flags)) p (returns s 0x80))
+    one-wire-row : (o : Operands) (e : ContextChange) (p : Plan) → Goes s b o e p → Opens s b (row b (Selected OneWire) o e) (cond (oneWireSelected (page .flags)) p (returns s 0x80))
     one-wire-row = selected-row s b OneWire (oneWireSelected (page .flags)) (one-selected (page .flags) one .one-wire)
 
     one-wire-agrees : (c : OneWireCommand) → Opens s b (oneWireOpening b c) (cond (oneWireSelected (page .flags)) (runOneWire s c) (returns s 0x80))

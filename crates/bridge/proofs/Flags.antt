@@ -5,7 +5,7 @@ use mathlib.Core.Bool.{Bool, true, false, cond}
 use native.Mathlib.Omega.{arith}
 use borrow.Author.Tests.{eqb-true}
 use lib.Dec.{eqb}
-use Rattle.grammar.specs.Grammar.{numberOf}
+use Rattle.grammar.specs.Grammar.{interfaceNumber}
 use Rattle.grammar.specs.declared.Interface.{Interface}
 use Rattle.grammar.specs.declared.Interface.the-variants.{NoInterface, I2C, SPI, OneWire}
 use Rattle.registers.specs.Registers.{i2cSelected, spiSelected, oneWireSelected}
@@ -23,13 +23,13 @@ same-interface f g h = let t = same-selected f g h in λ i. choose (eqb (t .i2c 
 
 -- A FLAG IS SET exactly if its interface is the one selected
 pub record OneSelected (flags : ℕ) : Type 0 where
-  pub i2c : i2cSelected flags ≡ eqb (numberOf (interfaceOf flags)) (numberOf I2C)
-  pub spi : spiSelected flags ≡ eqb (numberOf (interfaceOf flags)) (numberOf SPI)
-  pub one-wire : oneWireSelected flags ≡ eqb (numberOf (interfaceOf flags)) (numberOf OneWire)
+  pub i2c : i2cSelected flags ≡ eqb (interfaceNumber (interfaceOf flags)) (interfaceNumber I2C)
+  pub spi : spiSelected flags ≡ eqb (interfaceNumber (interfaceOf flags)) (interfaceNumber SPI)
+  pub one-wire : oneWireSelected flags ≡ eqb (interfaceNumber (interfaceOf flags)) (interfaceNumber OneWire)
 
 -- the same of three Booleans
 abbrev Apart : Bool → Bool → Bool → Type 0
-Apart a b c = (a ≡ eqb (numberOf (choose a b c)) 1) × (b ≡ eqb (numberOf (choose a b c)) 2) × (c ≡ eqb (numberOf (choose a b c)) 3)
+Apart a b c = (a ≡ eqb (interfaceNumber (choose a b c)) 1) × (b ≡ eqb (interfaceNumber (choose a b c)) 2) × (c ≡ eqb (interfaceNumber (choose a b c)) 3)
 
 apart : (x y z : ℕ) → x + y + z ≤ 1 → (a b c : Bool) → eqb x 1 ≡ a → eqb y 1 ≡ b → eqb z 1 ≡ c → Apart a b c
 apart x y z h true true c p q r = let i = eqb-true x 1 p in let j = eqb-true y 1 q in absurd (omega arith)

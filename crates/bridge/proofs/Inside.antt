@@ -7,7 +7,7 @@ use native.Mathlib.Omega.{arith}
 use borrow.Author.Tests.{eqb-true, eqb-false}
 use lib.Dec.{eqb}
 use Rattle.grammar.specs.Scanner.{going, between}
-use Rattle.grammar.specs.declared.Effect.the-variants.{Keep}
+use Rattle.grammar.specs.declared.ContextChange.the-variants.{Keep}
 use Rattle.grammar.specs.declared.Place.the-variants.{Inside}
 use Rattle.grammar.specs.declared.Scanned.the-variants.{Accepted}
 use Rattle.registers.specs.Registers.{withRegister, settled}
@@ -22,7 +22,7 @@ use Rattle.commands.specs.Plans.{Plan}
 use Rattle.commands.specs.declared.ExtendedCommand.{ExtendedCommand}
 use Rattle.commands.specs.declared.ExtendedCommand.the-variants as x
 use Rattle.bridge.specs.Views.{contextOf}
-use Rattle.bridge.proofs.View.{operandEffect, viewOf}
+use Rattle.bridge.proofs.View.{operandChange, viewOf}
 use Rattle.bridge.proofs.Openings.{extendedOpening}
 use Rattle.bridge.proofs.Plans.{PlanAgrees, going-on, returns-code, Opens}
 
@@ -46,7 +46,7 @@ module _ (s : State) (b : ℕ) where
 
   -- AN OPERAND
 
-  pub operand-agrees : (a : Operand) → PlanAgrees s (Accepted (going (operandEffect a) 0 b (contextOf s))) (operandPlan s a b)
+  pub operand-agrees : (a : Operand) → PlanAgrees s (Accepted (going (operandChange a) 0 b (contextOf s))) (operandPlan s a b)
   operand-agrees (o.ToPort a) = (refl, port-view a _)
   operand-agrees o.ToCycles = (refl, refl)
   operand-agrees o.ToI2c = (refl, refl)

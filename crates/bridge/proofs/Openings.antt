@@ -6,8 +6,8 @@ use lib.Dec.{ltb}
 use Rattle.grammar.specs.Grammar.{Needs, Common, Selected, Configured, Operands, None, One, Nine, Packet, commands, extendedCommands}
 use Rattle.grammar.specs.Scanner.{Opening, Unknown, Known, Extension, openingOf, extensionOf}
 use Rattle.grammar.specs.declared.Interface.the-variants.{I2C, SPI, OneWire}
-use Rattle.grammar.specs.declared.Effect.{Effect}
-use Rattle.grammar.specs.declared.Effect.the-variants.{Keep, Clear, Select, Configure, Resize}
+use Rattle.grammar.specs.declared.ContextChange.{ContextChange}
+use Rattle.grammar.specs.declared.ContextChange.the-variants.{Keep, Clear, Select, Configure, Resize}
 use Rattle.grammar.proofs.Lookups.{values, byte-fact}
 use Rattle.commands.specs.Common.{commonOf}
 use Rattle.commands.specs.Extended.{extendedOf}
@@ -27,8 +27,8 @@ use Rattle.commands.specs.declared.OneWireCommand.the-variants as w
 
 -- THE ROW OF A COMMAND whose byte is b
 
-abbrev pub row : ℕ → Needs → Operands → Effect → Opening
-row b n o e = Known (record { code = b; needs = n; operands = o; effect = e })
+abbrev pub row : ℕ → Needs → Operands → ContextChange → Opening
+row b n o e = Known (record { code = b; needs = n; operands = o; change = e })
 
 abbrev pub commonOpening : ℕ → CommonCommand → Opening
 commonOpening b k.ResetDevice = row b Common None Clear

@@ -9,7 +9,7 @@ use Rattle.grammar.specs.Scanner.{Opening, Unknown, going, opened}
 use Rattle.grammar.specs.declared.Interface.{Interface}
 use Rattle.grammar.specs.declared.Interface.the-variants.{SPI}
 use Rattle.grammar.specs.declared.Context.{Context}
-use Rattle.grammar.specs.declared.Effect.{Effect}
+use Rattle.grammar.specs.declared.ContextChange.{ContextChange}
 use Rattle.grammar.specs.declared.Place.the-variants.{Inside}
 use Rattle.grammar.specs.declared.Scanner.{Scanner}
 use Rattle.grammar.specs.declared.Scanned.{Scanned}
@@ -39,7 +39,7 @@ carried-agrees s (Accepted g) p x h = (calm-said (received (p .state) (x .packet
 carried-agrees s (Rejected w) p x h = (h .0 (received (p .state) (x .packet)) (x .byte), h .1)
 
 -- so many bytes are to come, and at least one
-pub going-on : (e : Effect) (n b : ℕ) (c : Context) → 1 ≤ n → record { context = c; place = Inside e (n - 1) } ≡ going e n b c
+pub going-on : (e : ContextChange) (n b : ℕ) (c : Context) → 1 ≤ n → record { context = c; place = Inside e (n - 1) } ≡ going e n b c
 going-on e zero b c h = absurd (omega arith)
 going-on e (suc n) b c h = let q : suc n - 1 ≡ n = omega arith in ap (λ (m : ℕ). record { context = c; place = Inside e m }) q
 
@@ -69,7 +69,7 @@ module _ (s : State) where
     Opens o p = PlanAgrees s (opened o (contextOf s) b) p
 
     -- the plan of a command that is legal
-    abbrev pub Goes : Operands → Effect → Plan → Type 0
+    abbrev pub Goes : Operands → ContextChange → Plan → Type 0
     Goes o e p = PlanAgrees s (Accepted (going e (count o (contextOf s)) b (contextOf s))) p
 
     pub choice : (t : Bool) (x y : Opening) (p q : Plan) → Opens x p → Opens y q → Opens (cond t x y) (cond t p q)
@@ -80,12 +80,12 @@ module _ (s : State) where
     unknown-row true = returns-code 0x80
     unknown-row false = returns-code 0x80
 
-    pub selected-row : (i : Interface) (t : Bool) → t ≡ selected i (contextOf s) → (o : Operands) (e : Effect) (p : Plan) → Goes o e p → Opens (row b (Selected i) o e) (cond t p (returns s 0x80))
+    pub selected-row : (i : Interface) (t : Bool) → t ≡ selected i (contextOf s) → (o : Operands) (e : ContextChange) (p : Plan) → Goes o e p → Opens (row b (Selected i) o e) (cond t p (returns s 0x80))
     selected-row i t q o e p h =
         let g = going e (count o (contextOf s)) b (contextOf s) in
         subst (λ (z : Bool). PlanAgrees s (cond z (Accepted g) (Rejected 0x80)) (cond t p (returns s 0x80))) q (either t g 0x80 p (returns s 0x80) h (returns-code 0x80))
 
-    pub configured-row : (t : Bool) → t ≡ selected SPI (contextOf s) → (o : Operands) (e : Effect) (p q : Plan) → Goes o e p → PlanAgrees s (Rejected 0x40) q
+    pub configured-row : (t : Bool) → t ≡ selected SPI (contextOf s) → (o : Operands) (e : ContextChange) (p q : Plan) → Goes o e p → PlanAgrees s (Rejected 0x40) q
         → Opens (row b Configured o e) (cond t (cond (s .page .configured) p q) (returns s 0x80))
     configured-row t u o e p q h r =
         let g = going e (count o (contextOf s)) b (contextOf s) in

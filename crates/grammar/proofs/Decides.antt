@@ -95,7 +95,7 @@ opened-rejecting : (o : Opening) (c : Context) (b : ℕ) → Rejecting (opened o
 opened-rejecting Unknown c b = refl
 opened-rejecting (Known k) c b = go (legal (k .needs) c)
   where
-    go : (t : Bool) → Rejecting (cond t (Accepted (going (k .effect) (count (k .operands) c) b c)) (Rejected (codeFor (k .needs) c)))
+    go : (t : Bool) → Rejecting (cond t (Accepted (going (k .change) (count (k .operands) c) b c)) (Rejected (codeFor (k .needs) c)))
     go true = tt
     go false = code-rejecting (k .needs) c
 opened-rejecting Extension c b = tt

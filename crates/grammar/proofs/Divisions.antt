@@ -4,7 +4,7 @@ use mathlib.Core.Path.{_≡_, refl, sym, _∙_, ap, subst}
 use mathlib.Core.List.{List, [], _∷_, _++_, head-eq-of-cons-eq, tail-eq-of-cons-eq, append-cancel-left, nil≢cons}
 use native.Mathlib.Omega.{arith}
 use lib.ListN.{length}
-use Rattle.grammar.specs.Grammar.{Context, Command, count, after, last, Item, command, extended, Items, next, join, Division}
+use Rattle.grammar.specs.Grammar.{Context, Command, count, contextAfter, last, Item, command, extended, Items, next, join, Division}
 use Rattle.grammar.proofs.Table.{same-command, same-extended, no-1D}
 
 same-front : (a b r s : List ℕ) → length a ≡ length b → a ++ r ≡ b ++ s → a ≡ b
@@ -18,14 +18,14 @@ same-item : {c d e : Context} {x y : List ℕ} → Item c x d → Item c y e →
 same-item {c} (command k m l ops q) (command k′ m′ l′ ops′ q′) r s p =
     let kk : k ≡ k′ = same-command m m′ (head-eq-of-cons-eq p) in
     let oo : ops ≡ ops′ = same-front ops ops′ r s (q ∙ ap (λ (a : Command). count (a .operands) c) kk ∙ sym q′) (tail-eq-of-cons-eq p) in
-    (λ i. kk i .code ∷ oo i, λ i. after (kk i .effect) (last (kk i .code) (oo i)) c)
+    (λ i. kk i .code ∷ oo i, λ i. contextAfter (kk i .change) (last (kk i .code) (oo i)) c)
 same-item (command k m l ops q) (extended k′ m′ l′ ops′ q′) r s p = absurd (no-1D m (head-eq-of-cons-eq p))
 same-item (extended k m l ops q) (command k′ m′ l′ ops′ q′) r s p = absurd (no-1D m′ (sym (head-eq-of-cons-eq p)))
 same-item {c} (extended k m l ops q) (extended k′ m′ l′ ops′ q′) r s p =
     let t = tail-eq-of-cons-eq p in
     let kk : k ≡ k′ = same-extended m m′ (head-eq-of-cons-eq t) in
     let oo : ops ≡ ops′ = same-front ops ops′ r s (q ∙ ap (λ (a : Command). count (a .operands) c) kk ∙ sym q′) (tail-eq-of-cons-eq t) in
-    (λ i. 0x1D ∷ kk i .code ∷ oo i, λ i. after (kk i .effect) (last (kk i .code) (oo i)) c)
+    (λ i. 0x1D ∷ kk i .code ∷ oo i, λ i. contextAfter (kk i .change) (last (kk i .code) (oo i)) c)
 
 never-empty : {c d : Context} {x : List ℕ} → Item c x d → (r : List ℕ) → [] ≡ x ++ r → ⊥
 never-empty (command k m l ops q) r p = nil≢cons p

@@ -9,32 +9,32 @@ use borrow.Author.Tests.{eq-eqb}
 use lib.Dec.{eqb}
 use lib.ListN.{length, getD, drop, drop-of-length-le}
 use lib.Seq.{drop-cons}
-use Rattle.grammar.specs.Grammar.{Context, Effect, commands, count, after}
+use Rattle.grammar.specs.Grammar.{Context, ContextChange, commands, count, contextAfter}
 use Rattle.grammar.specs.Scanner.{Place, Extended, Inside, Scanner, Scanned, Accepted, Rejected, Opening, Unknown, Known, Extension, rowOf, openingOf, codeFor, between, going, opened, scanAt, scan, Course, through, rejectedAt, later, resume, scanAll}
 use Rattle.grammar.specs.Verdict.{Whole, Open, Wrong, atEnd, verdict}
 use Rattle.grammar.specs.Following.{openingIn, operandsOf, operandsIn}
-use Rattle.grammar.specs.Lookups.{accepts, codeOf, effectOf}
+use Rattle.grammar.specs.Lookups.{accepts, codeOf, changeOf}
 use Rattle.grammar.proofs.Table.{opening-extension, extension-none}
 
 -- ONE BYTE
 
-pub going-ended : (e : Effect) (n b : ℕ) (c d : Context) → n ≡ 0 → d ≡ after e b c → between d ≡ going e n b c
+pub going-ended : (e : ContextChange) (n b : ℕ) (c d : Context) → n ≡ 0 → d ≡ contextAfter e b c → between d ≡ going e n b c
 going-ended e n b c d q r = ap between r ∙ ap (λ (m : ℕ). going e m b c) (sym q)
 
-pub going-on : (e : Effect) (n b : ℕ) (c : Context) → (n ≡ 0 → ⊥) → record { context = c; place = Inside e (n - 1) } ≡ going e n b c
+pub going-on : (e : ContextChange) (n b : ℕ) (c : Context) → (n ≡ 0 → ⊥) → record { context = c; place = Inside e (n - 1) } ≡ going e n b c
 going-on e zero b c h = absurd (h refl)
 going-on e (suc n) b c h = let q : suc n - 1 ≡ n = omega arith in ap (λ (m : ℕ). record { context = c; place = Inside e m }) q
 
 pub rejected : (o : Opening) (c : Context) (b w : ℕ) → accepts o c ≡ false → w ≡ codeOf o c → Rejected w ≡ opened o c b
 rejected Unknown c b w q e = ap Rejected e
 rejected (Known k) c b w q e =
-    ap Rejected e ∙ sym (ap (λ (t : Bool). cond t (Accepted (going (k .effect) (count (k .operands) c) b c)) (Rejected (codeFor (k .needs) c))) q)
+    ap Rejected e ∙ sym (ap (λ (t : Bool). cond t (Accepted (going (k .change) (count (k .operands) c) b c)) (Rejected (codeFor (k .needs) c))) q)
 rejected Extension c b w q e = absurd (true≢false q)
 
-pub accepted : (o : Opening) (c : Context) (b n : ℕ) (e : Effect) → accepts o c ≡ true → (o ≡ Extension → ⊥) → n ≡ operandsOf o c → e ≡ effectOf o → Accepted (going e n b c) ≡ opened o c b
+pub accepted : (o : Opening) (c : Context) (b n : ℕ) (e : ContextChange) → accepts o c ≡ true → (o ≡ Extension → ⊥) → n ≡ operandsOf o c → e ≡ changeOf o → Accepted (going e n b c) ≡ opened o c b
 accepted Unknown c b n e q x m r = absurd (false≢true q)
 accepted (Known k) c b n e q x m r =
-    rw (m, r) (sym (ap (λ (t : Bool). cond t (Accepted (going (k .effect) (count (k .operands) c) b c)) (Rejected (codeFor (k .needs) c))) q))
+    rw (m, r) (sym (ap (λ (t : Bool). cond t (Accepted (going (k .change) (count (k .operands) c) b c)) (Rejected (codeFor (k .needs) c))) q))
 accepted Extension c b n e q x m r = absurd (x refl)
 
 -- 1D between items, and nothing else, opens an extension
@@ -111,8 +111,8 @@ read-end bs g₀ g i l q =
 
 -- THE OPERANDS OF AN ITEM: all of them are there, or the bytes end inside it
 
-read-operands : (bs : List ℕ) (g₀ : Scanner) (e : Effect) (n b : ℕ) (c : Context) (i : ℕ) → i + n < length bs → b ≡ getD bs i 0 → Read bs g₀ (going e n b c) (i + 1)
-    → Read bs g₀ (between (after e (getD bs (i + n) 0) c)) (i + n + 1)
+read-operands : (bs : List ℕ) (g₀ : Scanner) (e : ContextChange) (n b : ℕ) (c : Context) (i : ℕ) → i + n < length bs → b ≡ getD bs i 0 → Read bs g₀ (going e n b c) (i + 1)
+    → Read bs g₀ (between (contextAfter e (getD bs (i + n) 0) c)) (i + n + 1)
 read-operands bs g₀ e zero b c i l q r =
     let z : i + 0 ≡ i = omega arith in
     rw (z, ← q) r
@@ -120,7 +120,7 @@ read-operands bs g₀ e (suc n) b c i l q r =
     let z : i + suc n ≡ i + 1 + n = omega arith in
     rw z (read-operands bs g₀ e n (getD bs (i + 1) 0) c (i + 1) (omega arith) refl (read-next bs g₀ _ _ (i + 1) (omega arith) refl r))
 
-read-short : (bs : List ℕ) (g₀ : Scanner) (e : Effect) (n b : ℕ) (c : Context) (i : ℕ) → i < length bs → length bs ≤ i + n → Read bs g₀ (going e n b c) (i + 1)
+read-short : (bs : List ℕ) (g₀ : Scanner) (e : ContextChange) (n b : ℕ) (c : Context) (i : ℕ) → i < length bs → length bs ≤ i + n → Read bs g₀ (going e n b c) (i + 1)
     → Open ≡ verdict (scanAll g₀ bs)
 read-short bs g₀ e zero b c i l s r = absurd (omega arith)
 read-short bs g₀ e (suc n) b c i l s r = go (decLt (i + 1) (length bs)) (read-short bs g₀ e n (getD bs (i + 1) 0) c (i + 1))
@@ -141,14 +141,14 @@ module _ (bs : List ℕ) (g₀ : Scanner) (c : Context) (b : ℕ) (x : Bool) (i 
   pub turn-extension : eqb b 0x1D && not x ≡ true → Read bs g₀ (standing c true) (i + 1)
   turn-extension q = read-next bs g₀ _ _ i l (here (opens b x c q)) r
 
-  taken : (n : ℕ) (e : Effect) → accepts (openingIn b x) c ≡ true → eqb b 0x1D && not x ≡ false → n ≡ operandsIn c b x → e ≡ effectOf (openingIn b x) → Read bs g₀ (going e n b c) (i + 1)
+  taken : (n : ℕ) (e : ContextChange) → accepts (openingIn b x) c ≡ true → eqb b 0x1D && not x ≡ false → n ≡ operandsIn c b x → e ≡ changeOf (openingIn b x) → Read bs g₀ (going e n b c) (i + 1)
   taken n e q h m f = read-next bs g₀ _ _ i l (here (accepted (openingIn b x) c b n e q (opens-none b x h) m f)) r
 
   pub turn-open : (n : ℕ) → accepts (openingIn b x) c ≡ true → eqb b 0x1D && not x ≡ false → n ≡ operandsIn c b x → length bs ≤ i + n → Open ≡ verdict (scanAll g₀ bs)
-  turn-open n q h m s = read-short bs g₀ _ n b c i l s (taken n (effectOf (openingIn b x)) q h m refl)
+  turn-open n q h m s = read-short bs g₀ _ n b c i l s (taken n (changeOf (openingIn b x)) q h m refl)
 
-  pub turn-item : (n : ℕ) (e : Effect) (d : Context) → accepts (openingIn b x) c ≡ true → eqb b 0x1D && not x ≡ false → n ≡ operandsIn c b x → e ≡ effectOf (openingIn b x)
-      → i + n < length bs → d ≡ after e (getD bs (i + n) 0) c → Read bs g₀ (standing d false) (i + (n + 1))
+  pub turn-item : (n : ℕ) (e : ContextChange) (d : Context) → accepts (openingIn b x) c ≡ true → eqb b 0x1D && not x ≡ false → n ≡ operandsIn c b x → e ≡ changeOf (openingIn b x)
+      → i + n < length bs → d ≡ contextAfter e (getD bs (i + n) 0) c → Read bs g₀ (standing d false) (i + (n + 1))
   turn-item n e d q h m f s a =
       let z : i + (n + 1) ≡ i + n + 1 = omega arith in
       rw (z, a) (read-operands bs g₀ e n b c i s at (taken n e q h m f))

@@ -6,7 +6,7 @@ use mathlib.Core.List.{List, [], _∷_, _++_}
 use mathlib.Core.Logic.{_↔_}
 use native.Mathlib.Omega.{arith}
 use lib.ListN.{length}
-use Rattle.grammar.specs.Grammar.{Context, Effect, Command, extendedCommands, legal, count, after, last, Item, command, extended, Items, next, join, Orderly, Continuable, Bytes}
+use Rattle.grammar.specs.Grammar.{Context, ContextChange, Command, extendedCommands, legal, count, contextAfter, last, Item, command, extended, Items, next, join, Orderly, Continuable, Bytes}
 use Rattle.grammar.specs.Scanner.{Place, Between, Extended, Inside, Scanner, Accepted, Rejected, Opening, Unknown, Known, Extension, openingOf, extensionOf, codeFor, between, going, opened, scanAt, scan}
 use Rattle.grammar.proofs.Table.{opening-known, opening-extension, opening-command, extension-known, extension-none, extension-command}
 
@@ -25,17 +25,17 @@ walk-split (x ∷ xs) (move e w) = let s = walk-split xs w in (s .0, move e (s .
 
 -- FROM ITEMS TO WALKS
 
-operands-walk : (e : Effect) (n b : ℕ) (c : Context) (ops : List ℕ) → length ops ≡ n → Walk (going e n b c) ops (between (after e (last b ops) c))
+operands-walk : (e : ContextChange) (n b : ℕ) (c : Context) (ops : List ℕ) → length ops ≡ n → Walk (going e n b c) ops (between (contextAfter e (last b ops) c))
 operands-walk e zero b c [] q = stay
 operands-walk e zero b c (x ∷ ops) q = absurd (omega arith)
 operands-walk e (suc n) b c [] q = absurd (omega arith)
 operands-walk e (suc n) b c (x ∷ ops) q = move refl (operands-walk e n x c ops (omega arith))
 
 -- a legal command is accepted
-known-accepted : (k : Command) (c : Context) (b : ℕ) (o : Opening) → o ≡ Known k → legal (k .needs) c ≡ true → opened o c b ≡ Accepted (going (k .effect) (count (k .operands) c) b c)
+known-accepted : (k : Command) (c : Context) (b : ℕ) (o : Opening) → o ≡ Known k → legal (k .needs) c ≡ true → opened o c b ≡ Accepted (going (k .change) (count (k .operands) c) b c)
 known-accepted k c b o e l =
     ap (λ (x : Opening). opened x c b) e
-    ∙ ap (λ (t : Bool). cond t (Accepted (going (k .effect) (count (k .operands) c) b c)) (Rejected (codeFor (k .needs) c))) l
+    ∙ ap (λ (t : Bool). cond t (Accepted (going (k .change) (count (k .operands) c) b c)) (Rejected (codeFor (k .needs) c))) l
 
 opened-1D : (c : Context) → scan (between c) 0x1D ≡ Accepted (record { context = c; place = Extended })
 unfolding openingOf
@@ -43,10 +43,10 @@ opened-1D c = refl
 
 item-walk : {c d : Context} {x : List ℕ} → Item c x d → Walk (between c) x (between d)
 item-walk {c} (command k m l ops q) =
-    move (known-accepted k c (k .code) _ (opening-command m) l) (operands-walk (k .effect) _ (k .code) c ops q)
+    move (known-accepted k c (k .code) _ (opening-command m) l) (operands-walk (k .change) _ (k .code) c ops q)
 item-walk {c} (extended k m l ops q) =
     move {h = record { context = c; place = Extended }} (opened-1D c)
-    (move (known-accepted k c (k .code) _ (extension-command m) l) (operands-walk (k .effect) _ (k .code) c ops q))
+    (move (known-accepted k c (k .code) _ (extension-command m) l) (operands-walk (k .change) _ (k .code) c ops q))
 
 items-walk : {c d : Context} {xs : List (List ℕ)} → Items c xs d → Walk (between c) (join xs) (between d)
 items-walk Items.none = stay
@@ -54,8 +54,8 @@ items-walk (next i r) = walk-append (item-walk i) (items-walk r)
 
 -- FROM WALKS TO ITEMS: what is to come of the item at hand, and the items after it
 
-abbrev Operating : Effect → ℕ → ℕ → Context → List ℕ → Context → Type 0
-Operating e n b c bs d = (ops : List ℕ) × (xs : List (List ℕ)) × (length ops ≡ n) × Items (after e (last b ops) c) xs d × (ops ++ join xs ≡ bs)
+abbrev Operating : ContextChange → ℕ → ℕ → Context → List ℕ → Context → Type 0
+Operating e n b c bs d = (ops : List ℕ) × (xs : List (List ℕ)) × (length ops ≡ n) × Items (contextAfter e (last b ops) c) xs d × (ops ++ join xs ≡ bs)
 
 abbrev Rest : Place → Context → List ℕ → Context → Type 0
 Rest Between c bs d = (xs : List (List ℕ)) × Items c xs d × (join xs ≡ bs)
@@ -65,7 +65,7 @@ Rest (Inside e n) c bs d = (x : ℕ) × (r : List ℕ) × Operating e n x c r d 
 abbrev RestOf : Scanner → List ℕ → Context → Type 0
 RestOf g bs d = Rest (g .place) (g .context) bs d
 
-going-rest : (e : Effect) (n b : ℕ) (c : Context) (bs : List ℕ) (d : Context) → RestOf (going e n b c) bs d → Operating e n b c bs d
+going-rest : (e : ContextChange) (n b : ℕ) (c : Context) (bs : List ℕ) (d : Context) → RestOf (going e n b c) bs d → Operating e n b c bs d
 going-rest e zero b c bs d (xs, its, j) = ([], xs, refl, its, j)
 going-rest e (suc n) b c bs d (x, r, g, q) = (x ∷ g .0, g .1, ap suc (g .2), g .3, ap (λ (l : List ℕ). x ∷ l) (g .4) ∙ q)
 
@@ -77,12 +77,12 @@ never-accepted e = let z : _≡_ {A = ℕ} 0 1 = cc in absurd (omega arith)
 
 -- a command that was accepted was legal, and its operands follow
 known-rest : (k : Command) (c : Context) (b : ℕ) (bs : List ℕ) (d : Context) (h : Scanner) → b ≡ k .code → opened (Known k) c b ≡ Accepted h → RestOf h bs d
-    → (legal (k .needs) c ≡ true) × Operating (k .effect) (count (k .operands) c) (k .code) c bs d
+    → (legal (k .needs) c ≡ true) × Operating (k .change) (count (k .operands) c) (k .code) c bs d
 known-rest k c b bs d h e p r = go (legal (k .needs) c) refl p
   where
-    go : (t : Bool) → legal (k .needs) c ≡ t → cond t (Accepted (going (k .effect) (count (k .operands) c) b c)) (Rejected (codeFor (k .needs) c)) ≡ Accepted h
-        → (legal (k .needs) c ≡ true) × Operating (k .effect) (count (k .operands) c) (k .code) c bs d
-    go true q p = (q, subst (λ (a : ℕ). Operating (k .effect) (count (k .operands) c) a c bs d) e (going-rest (k .effect) _ b c bs d (subst (λ (g : Scanner). RestOf g bs d) (accepted p) r)))
+    go : (t : Bool) → legal (k .needs) c ≡ t → cond t (Accepted (going (k .change) (count (k .operands) c) b c)) (Rejected (codeFor (k .needs) c)) ≡ Accepted h
+        → (legal (k .needs) c ≡ true) × Operating (k .change) (count (k .operands) c) (k .code) c bs d
+    go true q p = (q, subst (λ (a : ℕ). Operating (k .change) (count (k .operands) c) a c bs d) e (going-rest (k .change) _ b c bs d (subst (λ (g : Scanner). RestOf g bs d) (accepted p) r)))
     go false q p = never-accepted p
 
 rest-step : (p : Place) (c : Context) (b : ℕ) (bs : List ℕ) (d : Context) (h : Scanner) → scanAt p c b ≡ Accepted h → RestOf h bs d → Rest p c (b ∷ bs) d
@@ -124,8 +124,8 @@ orderly-walk c bs = (λ o. (o .1, subst (λ (l : List ℕ). Walk (between c) l (
 abbrev Finish : Scanner → Type 0
 Finish g = (more : List ℕ) × (d : Context) × Walk g more (between d) × Bytes more
 
-finish-inside : (e : Effect) (n : ℕ) (c : Context) → Finish (record { context = c; place = Inside e n })
-finish-inside e zero c = (0 ∷ [], after e 0 c, move refl stay, (omega arith, tt))
+finish-inside : (e : ContextChange) (n : ℕ) (c : Context) → Finish (record { context = c; place = Inside e n })
+finish-inside e zero c = (0 ∷ [], contextAfter e 0 c, move refl stay, (omega arith, tt))
 finish-inside e (suc n) c = let f = finish-inside e n c in (0 ∷ f .0, f .1, move refl (f .2), (omega arith, f .3))
 
 finish : (p : Place) (c : Context) → Finish (record { context = c; place = p })

@@ -2,7 +2,7 @@
 use Prim.Native.Nat.{ℕ}
 use mathlib.Core.Bool.{Bool, true, false}
 use Rattle.codes.specs.Codes.{unknownCommand}
-use Rattle.grammar.specs.Grammar.{Context, Needs, Common, Selected, Configured, Effect, Keep, legal}
+use Rattle.grammar.specs.Grammar.{Context, Needs, Common, Selected, Configured, ContextChange, Keep, legal}
 use Rattle.grammar.specs.Scanner.{Opening, Unknown, Known, Extension, codeFor}
 
 -- whether the scanner accepts it
@@ -28,7 +28,7 @@ codeOf (Known k) c = codeFor (k .needs) c
 codeOf Extension c = unknownCommand
 
 -- what it does to the context; 1D by itself does nothing
-abbrev pub effectOf : Opening → Effect
-effectOf Unknown = Keep
-effectOf (Known k) = k .effect
-effectOf Extension = Keep
+abbrev pub changeOf : Opening → ContextChange
+changeOf Unknown = Keep
+changeOf (Known k) = k .change
+changeOf Extension = Keep

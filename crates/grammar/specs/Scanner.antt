@@ -5,7 +5,7 @@ use mathlib.Core.Bool.{cond}
 use mathlib.Core.List.{List, [], _∷_}
 use lib.Dec.{eqb}
 use Rattle.codes.specs.Codes.{noConfiguration, unknownCommand}
-use Rattle.grammar.specs.Grammar.{SPI, Context, Needs, Common, Selected, Configured, Effect, Command, commands, extendedCommands, selected, legal, count, after}
+use Rattle.grammar.specs.Grammar.{SPI, Context, Needs, Common, Selected, Configured, ContextChange, Command, commands, extendedCommands, selected, legal, count, contextAfter}
 pub use Rattle.grammar.specs.declared.Place.{Place}
 pub use Rattle.grammar.specs.declared.Place.the-variants.{Between, Extended, Inside}
 pub use Rattle.grammar.specs.declared.Scanner.{Scanner}
@@ -42,13 +42,13 @@ extensionOf b = rowOf b extendedCommands
 -- ONE BYTE
 
 -- after the byte b, where so many more of its item are to come
-abbrev pub going : Effect → ℕ → ℕ → Context → Scanner
-going e zero b c = between (after e b c)
+abbrev pub going : ContextChange → ℕ → ℕ → Context → Scanner
+going e zero b c = between (contextAfter e b c)
 going e (suc n) b c = record { context = c; place = Inside e n }
 
 abbrev pub opened : Opening → Context → ℕ → Scanned
 opened Unknown c b = Rejected unknownCommand
-opened (Known k) c b = cond (legal (k .needs) c) (Accepted (going (k .effect) (count (k .operands) c) b c)) (Rejected (codeFor (k .needs) c))
+opened (Known k) c b = cond (legal (k .needs) c) (Accepted (going (k .change) (count (k .operands) c) b c)) (Rejected (codeFor (k .needs) c))
 opened Extension c b = Accepted (record { context = c; place = Extended })
 
 abbrev pub scanAt : Place → Context → ℕ → Scanned

@@ -1,6 +1,6 @@
 // Where the bytes of a stream lead, and how many operands a command then has.
 ghost use mathlib.Core.Path.{_≡_};
-ghost use Rattle.grammar.specs.Grammar.{factory};
+ghost use Rattle.grammar.specs.Grammar.{factoryContext};
 ghost use Rattle.grammar.specs.Scanner.{between, scan};
 ghost use Rattle.grammar.specs.Following.{passing, followed, operandsIn};
 use crate::Context;
@@ -12,7 +12,7 @@ use crate::scanning;
 
 // The scanner at the factory start of a session.
 pub fn start() -> Scanner
-    ensures { λ r. ⌜ r ≡ between factory ⌝ }
+    ensures { λ r. ⌜ r ≡ between factoryContext ⌝ }
 {
     let context = crate::cleared();
     Scanner {

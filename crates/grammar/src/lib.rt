@@ -23,7 +23,7 @@ pub struct Context {
 }
 
 // What an item does to the context.
-pub enum Effect {
+pub enum ContextChange {
     Keep,
     Clear,
     Select(Interface),
@@ -35,7 +35,7 @@ pub enum Effect {
 pub enum Place {
     Between,
     Extended,
-    Inside(Effect, u8),
+    Inside(ContextChange, u8),
 }
 
 pub struct Scanner {
@@ -89,7 +89,7 @@ pub fn judge(c: Context, bytes: &[u8]) -> Verdict
         if bytes.len() - i <= n {
             return Verdict::Open;
         }
-        at = scanning::context_after(rows::effect_of(b, extended), bytes[i + n], at);
+        at = scanning::context_after(rows::change_of(b, extended), bytes[i + n], at);
         extended = false;
         i += n + 1;
     }

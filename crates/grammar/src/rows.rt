@@ -1,11 +1,11 @@
 // What the command list says of a byte: after 1D, where `extended` is true, and between items.
 ghost use mathlib.Core.Path.{_≡_};
-ghost use Rattle.grammar.specs.Grammar.{numberOf, selected};
+ghost use Rattle.grammar.specs.Grammar.{interfaceNumber, selected};
 ghost use Rattle.grammar.specs.Scanner.{openingOf};
 ghost use Rattle.grammar.specs.Following.{openingIn, operandsIn};
-ghost use Rattle.grammar.specs.Lookups.{accepts, needsConfigured, codeOf, effectOf};
+ghost use Rattle.grammar.specs.Lookups.{accepts, needsConfigured, codeOf, changeOf};
 use crate::Context;
-use crate::Effect;
+use crate::ContextChange;
 use crate::Interface;
 use codes::NO_CONFIGURATION;
 use codes::UNKNOWN_COMMAND;
@@ -43,7 +43,7 @@ pub(crate) fn is_legal(c: Context, b: u8, extended: bool) -> bool
 }
 
 fn number_of(i: Interface) -> u8
-    ensures { λ r. ⌜ r ≡ numberOf i ⌝ }
+    ensures { λ r. ⌜ r ≡ interfaceNumber i ⌝ }
 {
     match i {
         Interface::NoInterface => 0x00,
@@ -93,19 +93,19 @@ pub(crate) fn operands_of(c: Context, b: u8, extended: bool) -> u8
 }
 
 // What a byte's item does to the context.
-pub(crate) fn effect_of(b: u8, extended: bool) -> Effect
-    ensures { λ r. ⌜ r ≡ effectOf (openingIn b extended) ⌝ }
+pub(crate) fn change_of(b: u8, extended: bool) -> ContextChange
+    ensures { λ r. ⌜ r ≡ changeOf (openingIn b extended) ⌝ }
 {
     if extended {
-        return Effect::Keep;
+        return ContextChange::Keep;
     }
     match b {
-        0x00 => Effect::Clear,
-        0x01 => Effect::Select(Interface::I2C),
-        0x02 => Effect::Select(Interface::SPI),
-        0x03 => Effect::Select(Interface::OneWire),
-        0x40 => Effect::Configure,
-        0x42 => Effect::Resize,
-        _ => Effect::Keep,
+        0x00 => ContextChange::Clear,
+        0x01 => ContextChange::Select(Interface::I2C),
+        0x02 => ContextChange::Select(Interface::SPI),
+        0x03 => ContextChange::Select(Interface::OneWire),
+        0x40 => ContextChange::Configure,
+        0x42 => ContextChange::Resize,
+        _ => ContextChange::Keep,
     }
 }

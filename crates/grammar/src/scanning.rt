@@ -1,34 +1,34 @@
 // The scanner, byte by byte.
 ghost use mathlib.Core.Path.{_≡_};
-ghost use Rattle.grammar.specs.Grammar.{after};
+ghost use Rattle.grammar.specs.Grammar.{contextAfter};
 ghost use Rattle.grammar.specs.Scanner.{going, opened, scan};
 ghost use Rattle.grammar.specs.Following.{openingIn};
 use crate::Context;
-use crate::Effect;
+use crate::ContextChange;
 use crate::Place;
 use crate::Scanned;
 use crate::Scanner;
 use crate::rows;
 
 // The context after an item whose last byte is b.
-pub(crate) fn context_after(e: Effect, b: u8, c: Context) -> Context
-    ensures { λ r. ⌜ r ≡ after e b c ⌝ }
+pub(crate) fn context_after(e: ContextChange, b: u8, c: Context) -> Context
+    ensures { λ r. ⌜ r ≡ contextAfter e b c ⌝ }
 {
     let i = c.interface;
     match e {
-        Effect::Keep => c,
-        Effect::Clear => crate::cleared(),
-        Effect::Select(j) => Context {
+        ContextChange::Keep => c,
+        ContextChange::Clear => crate::cleared(),
+        ContextChange::Select(j) => Context {
             interface: j,
             configured: c.configured,
             bits: c.bits,
         },
-        Effect::Configure => Context {
+        ContextChange::Configure => Context {
             interface: i,
             configured: true,
             bits: c.bits,
         },
-        Effect::Resize => Context {
+        ContextChange::Resize => Context {
             interface: i,
             configured: c.configured,
             bits: packet::size_of(b),
@@ -37,7 +37,7 @@ pub(crate) fn context_after(e: Effect, b: u8, c: Context) -> Context
 }
 
 // Where the scanner stands after the byte b, with n more of its item to come.
-fn advance(e: Effect, n: u8, b: u8, c: Context) -> Scanner
+fn advance(e: ContextChange, n: u8, b: u8, c: Context) -> Scanner
     ensures { λ r. ⌜ r ≡ going e n b c ⌝ }
 {
     if n == 0 {
@@ -66,7 +66,7 @@ fn open_item(c: Context, b: u8, extended: bool) -> Scanned
         });
     }
     let n = rows::operands_of(c, b, extended);
-    let e = rows::effect_of(b, extended);
+    let e = rows::change_of(b, extended);
     Scanned::Accepted(advance(e, n, b, c))
 }
 

@@ -7,7 +7,7 @@ use native.Mathlib.Numerals.{add-one}
 use native.Mathlib.Omega.{arith}
 use borrow.Author.Tests.{le-leb, lt-leb}
 use lib.ListN.{length}
-use Rattle.grammar.specs.Grammar.{factory}
+use Rattle.grammar.specs.Grammar.{factoryContext}
 use Rattle.grammar.specs.Scanner.{between}
 use Rattle.grammar.specs.declared.Scanner.{Scanner}
 use Rattle.text.specs.Words.{past}
@@ -24,7 +24,7 @@ use Rattle.text.proofs.Loops.{Loop, last-turn, loop-ends, loop-on}
 abbrev pub Assembling : List ℕ → List ℕ → List ℕ → Scanner → ℕ → ℕ → Type 0
 Assembling t o x g at size = Loop (scriptOf t (length o)) o 0 (λ n. scriptFor n t g (length o - size) at) (length t - at) x size
 
-pub assembling-first : (t o : List ℕ) → Assembling t o o (between factory) 0 0
+pub assembling-first : (t o : List ℕ) → Assembling t o o (between factoryContext) 0 0
 unfolding scriptOf
 assembling-first t o = record { turns = suc (length t); enough = omega arith; reads = λ y r q. rw (sub-zero (length o)) at q; within = omega arith; same = refl }
 

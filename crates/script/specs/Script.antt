@@ -4,7 +4,7 @@ use mathlib.Core.Bool.{cond}
 use mathlib.Core.List.{List, []}
 use lib.Dec.{eqb, leb}
 use lib.ListN.{length}
-use Rattle.grammar.specs.Grammar.{factory}
+use Rattle.grammar.specs.Grammar.{factoryContext}
 use Rattle.grammar.specs.Scanner.{between}
 use Rattle.grammar.specs.declared.Scanner.{Scanner}
 use Rattle.grammar.specs.Following.{followed}
@@ -45,4 +45,4 @@ scriptFor (suc n) t g room p =
 
 -- .. from the factory start, where every session begins
 unfoldable pub scriptOf : List ℕ → ℕ → Read
-scriptOf t room = scriptFor (suc (length t)) t (between factory) room 0
+scriptOf t room = scriptFor (suc (length t)) t (between factoryContext) room 0

@@ -25,4 +25,4 @@ starting = record { state = onState [] factoryImage device }
 
 -- THEOREM (proofs/Start.antt, `factory-context`): its context is the one that the grammar calls factory
 abbrev pub FactoryContext : Type 0
-FactoryContext = contextOf (starting .state) ≡ grammar.factory
+FactoryContext = contextOf (starting .state) ≡ grammar.factoryContext

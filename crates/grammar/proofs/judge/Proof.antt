@@ -63,7 +63,7 @@ judge-spec =
     let t = l .before .before in
     let s = t .before .loop in (
       search needs,
-      turn-item (t .before .before .before .args .bytes .now) _ (s .at) _ (s .extended) (s .i) (t .loop-test .taken) refl (s .inv .1) _ _ _ (sym (l .is-legal .ensures) ∙ not-false _ (x .before .if1 .left)) (x .if2 .left) (n .operands-of .ensures) (e .effect-of .ensures) (omega arith) (c .context-after .ensures),
+      turn-item (t .before .before .before .args .bytes .now) _ (s .at) _ (s .extended) (s .i) (t .loop-test .taken) refl (s .inv .1) _ _ _ (sym (l .is-legal .ensures) ∙ not-false _ (x .before .if1 .left)) (x .if2 .left) (n .operands-of .ensures) (e .change-of .ensures) (omega arith) (c .context-after .ensures),
     ))
     (λ c. let m = c .before .before in turn-end (m .before .before .args .bytes .now) _ (m .loop .at) (m .loop .extended) _ (m .loop .i) (search needs) (c .if4 .taken) (m .loop .inv .1))
     (λ c. let m = c .before .before in turn-end (m .before .before .args .bytes .now) _ (m .loop .at) (m .loop .extended) _ (m .loop .i) (search needs) (c .if4 .left) (m .loop .inv .1)))

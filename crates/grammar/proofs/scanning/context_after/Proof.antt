@@ -2,7 +2,7 @@
 use Prim.Native.Nat.{ℕ}
 use borrow.Author.Needs.{needs}
 use mathlib.Core.Path.{sym, ap, _∙_}
-use Rattle.grammar.specs.Grammar.{Context, Effect, after}
+use Rattle.grammar.specs.Grammar.{Context, ContextChange, contextAfter}
 use Rattle.grammar.proofs.scanning.context_after.Statement.{statement}
 use Rattle.grammar.proofs.scanning.context_after.Tie as tie
 
@@ -21,9 +21,9 @@ context-after-spec =
     (λ c. search needs)
     (λ c κs. search needs)
     (λ c. search needs)
-    (λ c. let a = c .before .before .before .args in c .cleared .ensures ∙ sym (ap (λ (e : Effect). after e (a .b) (a .c)) (c .before .enum-told2 .given .1)))
-    (λ c. let a = c .before .before .before .args in sym (ap (λ (e : Effect). after e (a .b) (a .c)) (c .before .e .given .1)))
-    (λ c. let a = c .before .before .args in sym (ap (λ (e : Effect). after e (a .b) (a .c)) (c .enum-told3 .given .1)))
+    (λ c. let a = c .before .before .before .args in c .cleared .ensures ∙ sym (ap (λ (e : ContextChange). contextAfter e (a .b) (a .c)) (c .before .enum-told2 .given .1)))
+    (λ c. let a = c .before .before .before .args in sym (ap (λ (e : ContextChange). contextAfter e (a .b) (a .c)) (c .before .e .given .1)))
+    (λ c. let a = c .before .before .args in sym (ap (λ (e : ContextChange). contextAfter e (a .b) (a .c)) (c .enum-told3 .given .1)))
     (λ c.
     let a = c .before .before .before .args in
-    ap (resized (a .c)) (c .size-of .ensures) ∙ sym (ap (λ (e : Effect). after e (a .b) (a .c)) (c .before .enum-told4 .given .1))))
+    ap (resized (a .c)) (c .size-of .ensures) ∙ sym (ap (λ (e : ContextChange). contextAfter e (a .b) (a .c)) (c .before .enum-told4 .given .1))))

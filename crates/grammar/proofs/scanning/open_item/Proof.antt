@@ -29,4 +29,4 @@ open-item-spec =
     let l = t .before .before in
     let a = l .before .args in
     ap Accepted (c .advance .ensures)
-    ∙ accepted (openingIn (a .b) (a .extended)) (a .c) (a .b) _ _ (sym (l .is-legal .ensures) ∙ not-false _ (t .before .if1 .left)) (opens-none (a .b) (a .extended) (t .if2 .left)) (n .operands-of .ensures) (e .effect-of .ensures)))
+    ∙ accepted (openingIn (a .b) (a .extended)) (a .c) (a .b) _ _ (sym (l .is-legal .ensures) ∙ not-false _ (t .before .if1 .left)) (opens-none (a .b) (a .extended) (t .if2 .left)) (n .operands-of .ensures) (e .change-of .ensures)))

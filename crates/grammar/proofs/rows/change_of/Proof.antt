@@ -5,17 +5,17 @@ use mathlib.Core.Bool.{Bool, cond}
 use mathlib.Core.List.{[], _∷_}
 use borrow.Author.Needs.{needs}
 use borrow.Author.Tests.{ne-eqb}
-use Rattle.grammar.specs.Grammar.{Effect, Keep, commands, extendedCommands}
+use Rattle.grammar.specs.Grammar.{ContextChange, Keep, commands, extendedCommands}
 use Rattle.grammar.specs.Scanner.{openingOf, extensionOf}
-use Rattle.grammar.specs.Lookups.{effectOf}
+use Rattle.grammar.specs.Lookups.{changeOf}
 use Rattle.grammar.proofs.Lookups.{values, byte-fact, anyOf, other}
-use Rattle.grammar.proofs.rows.effect_of.Statement.{statement}
-use Rattle.grammar.proofs.rows.effect_of.Tie as tie
+use Rattle.grammar.proofs.rows.change_of.Statement.{statement}
+use Rattle.grammar.proofs.rows.change_of.Tie as tie
 
-abbrev first : ℕ → Effect
-first b = effectOf (openingOf b)
+abbrev first : ℕ → ContextChange
+first b = changeOf (openingOf b)
 
-extended-computed : values (λ (b : ℕ). Keep) 256 0 ≡ values (λ (b : ℕ). effectOf (extensionOf b)) 256 0
+extended-computed : values (λ (b : ℕ). Keep) 256 0 ≡ values (λ (b : ℕ). changeOf (extensionOf b)) 256 0
 unfolding extensionOf extendedCommands
 extended-computed = refl
 
@@ -26,12 +26,12 @@ computed : values (λ (b : ℕ). cond (named b) (first b) Keep) 256 0 ≡ values
 unfolding openingOf commands
 computed = refl
 
-pub effect-of-spec : {M : Type 1} → statement M
+pub change-of-spec : {M : Type 1} → statement M
 unfolding openingOf commands
-effect-of-spec =
+change-of-spec =
     tie.close
     (tie.spec
-    (λ c. rw (c .if1 .taken) (byte-fact (λ (b : ℕ). Keep) (λ (b : ℕ). effectOf (extensionOf b)) extended-computed (c .before .args .b) (search needs)))
+    (λ c. rw (c .if1 .taken) (byte-fact (λ (b : ℕ). Keep) (λ (b : ℕ). changeOf (extensionOf b)) extended-computed (c .before .args .b) (search needs)))
     (λ c. rw (c .before .if1 .left, c .match .keys1))
     (λ c. rw (c .before .if1 .left, c .match .keys2))
     (λ c. rw (c .before .if1 .left, c .match .keys3))
