@@ -38,7 +38,7 @@ module _ (page : Page) (shared : Shared) (held : List ℕ) (b : ℕ) (h : b < 25
       subst (λ (o : Opening). PlanAgrees s (opened o (contextOf s) b) (runExtended s (extendedOf b))) (sym (extension-is b h)) (extended-agrees s b (extendedOf b))
   plan-agrees (v.Packet left exchange) n =
       let s = at (v.Packet left exchange) in
-      packet-agrees s b left exchange (packet-left s left exchange n refl .1)
+      packet-agrees s b left exchange (packet-left s left exchange n refl .0)
   plan-agrees (v.Timings left) n =
       let s = at (v.Timings left) in
       timings-agree s b left (timings-left s left n refl .0)

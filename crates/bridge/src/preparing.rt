@@ -46,7 +46,7 @@ pub fn prepare(s: State, event: Event, samples: &[u8], sampled: usize) -> Ready
     requires { ⌜ InRange s × (sampled ≤ length (now samples)) ⌝ }
     ensures { λ r. ⌜ Prepared s event (now (samples .entry)) sampled r ⌝ }
 {
-    let p = commands::plan_event(s, event);
+    let p = commands::decision_of(s, event);
     let change = p.change;
     let planned = effects::changes::apply(s, change);
     let page = planned.page;

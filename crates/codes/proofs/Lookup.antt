@@ -1,11 +1,12 @@
 -- What a table's lookup finds: a meaning that has what all of them have, or none where the byte is none of its codes. Assumes nothing.
 use Prim.Native.Nat.{ℕ}
 use mathlib.Core.Path.{_≡_, refl}
-use mathlib.Core.Bool.{Bool, true, false, cond}
+use mathlib.Core.Bool.{Bool, true, false, cond, _&&_}
 use mathlib.Core.List.{List, [], _∷_}
 use borrow.Author.Tests.{ne-eqb}
 use lib.Dec.{eqb}
 use Rattle.codes.specs.Tables.{Entry, lookup}
+use Rattle.codes.proofs.Both.{both-left, both-right}
 
 -- what the last arm of a match over a table's codes knows, after N
 abbrev pub Missed : {A : Type 0} → Type 0 → List (Entry A) → ℕ → Type 0
@@ -35,3 +36,13 @@ either P false x y p q = q
 pub found : {A : Type 0} (P : A → Type 0) (unknown : A) (b : ℕ) (es : List (Entry A)) → P unknown → Every P es → P (lookup unknown b es)
 found P unknown b [] u h = u
 found P unknown b (e ∷ es) u h = either P (eqb b (e .code)) (e .meaning) (lookup unknown b es) (h .0) (found P unknown b es u (h .1))
+
+-- a test that every meaning of a table passes, computed over the table
+abbrev pub all : {A : Type 0} → (A → Bool) → List (Entry A) → Bool
+all f [] = true
+all f (e ∷ es) = f (e .meaning) && all f es
+
+pub found-all : {A : Type 0} (f : A → Bool) (unknown : A) (b : ℕ) (es : List (Entry A)) → f unknown ≡ true → all f es ≡ true → f (lookup unknown b es) ≡ true
+found-all f unknown b [] u h = u
+found-all {A} f unknown b (e ∷ es) u h =
+    either (λ (x : A). f x ≡ true) (eqb b (e .code)) (e .meaning) (lookup unknown b es) (both-left (f (e .meaning)) (all f es) h) (found-all f unknown b es u (both-right (f (e .meaning)) (all f es) h))

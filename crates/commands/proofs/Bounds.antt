@@ -1,15 +1,15 @@
 -- How many reply bytes an event sends, and that its replies and actions are few. Assumes nothing.
 use Prim.Native.Nat.{ℕ, _+_, _≤_, _<_, min}
-use mathlib.Core.Path.{_≡_, refl, sym, ap, _∙_, subst}
-use mathlib.Core.Bool.{Bool, true, false, cond, false≢true}
+use mathlib.Core.Path.{_≡_, refl, sym, ap, _∙_}
+use mathlib.Core.Bool.{Bool, true, false, cond, _||_}
 use mathlib.Core.List.{List, [], _∷_, map}
 use native.Mathlib.Omega.{arith}
-use lib.Dec.{eqb}
 use lib.ListN.{length}
 use Rattle.packet.specs.Packet.{width, registerBytes, packetBytes, lowBytes}
 use Rattle.packet.proofs.Bytes.{length-register}
 use Rattle.packet.proofs.Loads.{length-low}
-use Rattle.registers.specs.Registers.{reportsOn, bitsIn}
+use Rattle.codes.proofs.Both.{both-left, both-right}
+use Rattle.registers.specs.Registers.{reportsOn, bitsIn, withReceived}
 use Rattle.registers.specs.Ranges.{InRange, Sized}
 use Rattle.registers.specs.declared.Page.{Page}
 use Rattle.registers.specs.declared.State.{State}
@@ -19,14 +19,18 @@ use Rattle.signals.proofs.Counts.{wave-few}
 use Rattle.signals.specs.declared.Waveform.{Waveform}
 use Rattle.signals.specs.declared.Waveform.the-variants as w
 use Rattle.commands.specs.Said.{returned, sent, repliesOf}
-use Rattle.commands.specs.Plans.{Plan, Answer, Silent, Returns, ReturnsTwice, ReturnsAndSends, Checked, Sends, SendsSample, SendsLevel, SendsEprom, SendsSerial, SendsTimings, SendsPacket, SendsLow, ReturnsThenLow, saidOf, received, carriedOut}
-use Rattle.commands.specs.Events.{planOf, effectOf}
+use Rattle.commands.specs.Decisions.{Decision, Change, Answer, Silent, Returns, ReturnsTwice, ReturnsAndSends, Checked, Sends, SendsSample, SendsLevel, SendsEprom, SendsSerial, SendsTimings, SendsPacket, SendsLow, ReturnsThenLow}
+use Rattle.commands.specs.Changes.{changed}
+use Rattle.commands.specs.Effects.{saidOf, effectFrom}
+use Rattle.commands.specs.Events.{decisionOf, effectOf}
 use Rattle.commands.specs.Promises.{mostReplies, FewActions, FewReplies}
 use Rattle.commands.proofs.Choices.{at-most}
 use Rattle.commands.proofs.Sent.{replies-sent}
-use Rattle.commands.proofs.KeptParts.{Kept}
-use Rattle.commands.proofs.Keeps.{plan-keeps}
-use Rattle.commands.proofs.Clauses.{short, Clause, fine, long, coded, coded-always, plan-clause}
+use Rattle.commands.specs.declared.Change.the-variants as c
+use Rattle.commands.proofs.Changes.{change-packet}
+use Rattle.commands.proofs.Keeps.{decision-keeps}
+use Rattle.commands.proofs.Answers.{accepting, short, one-or-none, short-few}
+use Rattle.commands.proofs.Sorted.{stays, steady, Sorted, is-proper, coded, coded-and-sent, decision-sorted}
 
 -- how many bytes an answer sends, with reports on or off
 abbrev replyCount : Bool → State → Answer → ℕ
@@ -44,10 +48,6 @@ replyCount reports s SendsTimings = 9
 replyCount reports s SendsPacket = registerBytes
 replyCount reports s SendsLow = packetBytes (bitsIn (s .page))
 replyCount reports s ReturnsThenLow = cond reports 1 0 + packetBytes (bitsIn (s .page))
-
-one-or-none : (on : Bool) (k : ℕ) → length (cond on (k ∷ []) []) ≡ cond on 1 0
-one-or-none true k = refl
-one-or-none false k = refl
 
 data-count : (on : Bool) (xs : List ℕ) (n : ℕ) → length xs ≡ n → length (repliesOf on (map sent xs)) ≡ n
 data-count on xs n e = ap length (replies-sent on xs) ∙ e
@@ -98,44 +98,10 @@ module _ (s : State) (z : Sized s) (h : s .page .size < width) where
   few on SendsLow = omega arith
   few on ReturnsThenLow = omega (arith, at-most on 1)
 
--- a short answer is at most two bytes, whatever the state holds
-short-few : (on : Bool) (s : State) (x : ℕ) (a : Answer) → short a ≡ true → length (repliesOf on (saidOf s x a)) ≤ mostReplies
-unfolding repliesOf
-short-few on s x Silent h = omega arith
-short-few on s x (Returns k) h = omega (arith, one-or-none on k, at-most on 1)
-short-few true s x ReturnsTwice h = omega arith
-short-few false s x ReturnsTwice h = omega arith
-short-few on s x (ReturnsAndSends k) h = omega arith
-short-few on s x (Checked k) h = omega (arith, one-or-none on (cond (eqb x 0) 0x00 k), at-most on 1)
-short-few on s x (Sends v) h = omega arith
-short-few on s x SendsSample h = omega arith
-short-few on s x SendsLevel h = omega arith
-short-few on s x SendsEprom h = absurd (false≢true h)
-short-few on s x SendsSerial h = absurd (false≢true h)
-short-few on s x SendsTimings h = absurd (false≢true h)
-short-few on s x SendsPacket h = absurd (false≢true h)
-short-few on s x SendsLow h = absurd (false≢true h)
-short-few on s x ReturnsThenLow h = absurd (false≢true h)
-
 -- THE EVENT
 
-sized-after : (s : State) (r : List ℕ) → Sized s → length r ≡ registerBytes → Sized (received s r)
+sized-after : (s : State) (r : List ℕ) → Sized s → length r ≡ registerBytes → Sized (withReceived s r)
 sized-after s r z e = record { eprom = z .eprom; serial = z .serial; packet = e; timings = z .timings }
-
-module _ (s : State) (n : InRange s) (z : Sized s) (on : Bool) (x : ℕ) where
-  abbrev Few : List ℕ → Plan → Type 0
-  Few r a = length (repliesOf on (saidOf (received (a .state) r) x (a .answer))) ≤ mostReplies
-
-  long-few : (a : Answer) (r : List ℕ) → length r ≡ registerBytes → length (repliesOf on (saidOf (received s r) x a)) ≤ mostReplies
-  long-few a r e =
-      let t = received s r in
-      rw (reply-count t (sized-after s r z e) (n .page .size-register) on x a) (few t (sized-after s r z e) (n .page .size-register) on a)
-
-  plan-few : (a : Plan) (r : List ℕ) → Clause s a → (a .state ≡ s → length r ≡ registerBytes) → Few r a
-  plan-few a r (fine c h) e = short-few on (received (a .state) r) x (a .answer) h
-  plan-few a r (long c q) e = subst (λ (t : State). length (repliesOf on (saidOf (received t r) x (a .answer))) ≤ mostReplies) (sym q) (long-few (a .answer) r (e q))
-  plan-few a r (coded k q) e = subst (λ (b : Plan). Few r b) (sym q) (short-few on (received s r) x (Returns k) refl)
-  plan-few a r (coded-always k q) e = subst (λ (b : Plan). Few r b) (sym q) (short-few on (received s r) x (ReturnsAndSends k) refl)
 
 -- a waveform leaves a register of the same size
 wave-packet : (q : Page) (a : Waveform) (ss : List ℕ) (m : ℕ) → length (q .packet) ≡ registerBytes → length ((waveOf q a ss m) .packet) ≡ registerBytes
@@ -161,16 +127,49 @@ wave-packet q (w.WriteOneWireStrong b) ss m e = e
 wave-packet q w.ReadOneWire ss m e = e
 wave-packet q w.ReadOneWireBit ss m e = e
 
+module _ (s : State) (n : InRange s) (z : Sized s) (on : Bool) (x : ℕ) where
+  abbrev Few : Answer → State → List ℕ → Type 0
+  Few a t r = length (repliesOf on (saidOf (withReceived t r) x a)) ≤ mostReplies
+
+  long-few : (a : Answer) (r : List ℕ) → length r ≡ registerBytes → Few a s r
+  long-few a r e =
+      let t = withReceived s r in
+      rw (reply-count t (sized-after s r z e) (n .page .size-register) on x a) (few t (sized-after s r z e) (n .page .size-register) on a)
+
+  -- a long answer is of the state as it was
+  proper-few : (d : Decision) (y : Change) (r : List ℕ) → d .change ≡ y → stays y || short (d .answer) ≡ true → length r ≡ registerBytes → Few (d .answer) (changed s (d .change)) r
+  proper-few d c.Nothing r q h e = rw q (long-few (d .answer) r e)
+  proper-few d c.Reset r q h e = short-few on _ x (d .answer) h
+  proper-few d (c.Select g) r q h e = short-few on _ x (d .answer) h
+  proper-few d c.ClearError r q h e = short-few on _ x (d .answer) h
+  proper-few d c.Save r q h e = short-few on _ x (d .answer) h
+  proper-few d (c.Flags g) r q h e = short-few on _ x (d .answer) h
+  proper-few d (c.Latch b) r q h e = short-few on _ x (d .answer) h
+  proper-few d (c.Await v) r q h e = short-few on _ x (d .answer) h
+  proper-few d c.EndWait r q h e = short-few on _ x (d .answer) h
+  proper-few d (c.Store a b) r q h e = short-few on _ x (d .answer) h
+  proper-few d (c.Cycles b) r q h e = short-few on _ x (d .answer) h
+  proper-few d (c.Config b) r q h e = short-few on _ x (d .answer) h
+  proper-few d (c.Size b) r q h e = short-few on _ x (d .answer) h
+  proper-few d (c.Hold v at b) r q h e = short-few on _ x (d .answer) h
+  proper-few d (c.LoadPacket at b) r q h e = short-few on _ x (d .answer) h
+  proper-few d (c.LoadTimings at b) r q h e = short-few on _ x (d .answer) h
+
+  sorted-few : (d : Decision) → Sorted d → (r : List ℕ) → length r ≡ registerBytes → Few (d .answer) (changed s (d .change)) r
+  sorted-few d (is-proper p) r e = proper-few d (d .change) r refl (both-left (stays (d .change) || short (d .answer)) (steady (d .wave)) (both-right (accepting (d .answer)) _ p)) e
+  sorted-few d (coded k q) r e = short-few on _ x (d .answer) (ap (λ (b : Decision). short (b .answer)) q)
+  sorted-few d (coded-and-sent k q) r e = short-few on _ x (d .answer) (ap (λ (b : Decision). short (b .answer)) q)
+
 pub event-replies : (s : State) (a : Event) (ss : List ℕ) (m : ℕ) → FewReplies s a ss m
-unfolding effectOf carriedOut
+unfolding effectOf effectFrom
 event-replies s a ss m n z =
-    let b = planOf s a in
-    let v = waveOf (b .state .page) (b .wave) ss m in
-    plan-few s n z (reportsOn (b .state .page .flags)) (v .byte) b (v .packet) (plan-clause s a)
-    (λ q. wave-packet (b .state .page) (b .wave) ss m (ap (λ (t : State). length (t .page .packet)) q ∙ z .packet))
+    let d = decisionOf s a in
+    let p = changed s (d .change) .page in
+    let v = waveOf p (d .wave) ss m in
+    sorted-few s n z (reportsOn (p .flags)) (v .byte) d (decision-sorted s a) (v .packet) (wave-packet p (d .wave) ss m (change-packet s (d .change) (z .packet)))
 
 pub event-actions : (s : State) (a : Event) (ss : List ℕ) (m : ℕ) → FewActions s a ss m
-unfolding effectOf carriedOut Kept
+unfolding effectOf effectFrom
 event-actions s a ss m n =
-    let b = planOf s a in
-    wave-few (b .state .page) (b .wave) ss m (plan-keeps s n a .page .size-register)
+    let d = decisionOf s a in
+    wave-few (changed s (d .change) .page) (d .wave) ss m (decision-keeps s n a .page .size-register)

@@ -1,19 +1,17 @@
--- What keeps the ranges: the registers' rules, and how a state is put together. Assumes nothing.
+-- What keeps the registers in their ranges. Assumes nothing.
 use Prim.Native.Nat.{ℕ, _+_, _*_, _/_, _%_, _<_}
-use mathlib.Core.Path.{_≡_, refl, sym, subst}
-use mathlib.Core.Bool.{Bool, true, false, cond}
+use mathlib.Core.Path.{_≡_}
+use mathlib.Core.Bool.{Bool}
 use native.Mathlib.Omega.{arith}
-use Rattle.registers.specs.Registers.{registerOf, withRegister, protected, withFlags, withPage, waiting, settled, bitsIn}
-use Rattle.registers.specs.Ranges.{selectedCount, PageInRange, WaitInRange, InRange}
+use Rattle.registers.specs.Registers.{registerOf, withRegister, protected, withFlags}
+use Rattle.registers.specs.Ranges.{selectedCount, PageInRange}
 use Rattle.registers.proofs.Flags.{same-selected}
 use Rattle.registers.specs.declared.Page.{Page}
-use Rattle.registers.specs.declared.State.{State}
 use Rattle.registers.specs.declared.PortRegister.{PortRegister}
 use Rattle.registers.specs.declared.PortRegister.the-variants as r
-use Rattle.registers.specs.declared.Wait.{Wait}
-use Rattle.registers.specs.declared.Wait.the-variants as v
-use Rattle.commands.specs.Plans.{Plan}
-use Rattle.commands.specs.Common.{Bit, Three, Four, Five, withBit, keptFlags}
+use Rattle.commands.specs.Commands.{Bit, Three, Four, Five}
+use Rattle.commands.specs.Bits.{withBit}
+use Rattle.commands.specs.Changes.{keptFlags}
 use Rattle.commands.proofs.Choices.{at-most}
 
 -- PORT REGISTERS
@@ -88,21 +86,3 @@ flag-count f flag h = same-count (keptFlags f + flag) flag (omega arith)
 
 pub page-flags : (p : Page) (f : ℕ) → PageInRange p → f < 32 → f % 8 ≡ p .flags % 8 → PageInRange (withFlags p f)
 page-flags p f q h e = record { one-interface = rw (same-count f (p .flags) e) (q .one-interface); flag-bits = h; size-register = q .size-register; configuration = q .configuration; c-direction = q .c-direction; c-latch = q .c-latch; d-direction = q .d-direction; d-latch = q .d-latch }
-
--- STATES
-
-pub idle-page : (s : State) (p : Page) → s .wait ≡ v.Nothing → PageInRange p → InRange (withPage s p)
-idle-page s p e q = record { page = q; wait = subst (λ (w : Wait). WaitInRange w (p .flags) (p .configured) (bitsIn p)) (sym e) tt }
-
-pub waits : (s : State) (w : Wait) → PageInRange (s .page) → WaitInRange w (s .page .flags) (s .page .configured) (bitsIn (s .page)) → InRange (waiting s w)
-waits s w q e = record { page = q; wait = e }
-
-pub settles : (s : State) (p : Page) → PageInRange p → InRange (settled s p)
-settles s p q = record { page = q; wait = tt }
-
-unfoldable pub Kept : Plan → Type 0
-Kept p = InRange (p .state)
-
-pub kept-cond : (t : Bool) (p q : Plan) → (t ≡ true → Kept p) → (t ≡ false → Kept q) → Kept (cond t p q)
-kept-cond true p q f g = f refl
-kept-cond false p q f g = g refl

@@ -1,10 +1,13 @@
 -- Laws that the proofs of this crate and of the crates above cite.
 pub mod Choices
 pub mod Sent
-pub mod KeptParts
-pub mod Keeps
-pub mod Clauses
-pub mod Rejects
-pub mod Bounds
 pub mod OneBit
+pub mod KeptParts
+pub mod Changes
+pub mod Legal
+pub mod Keeps
+pub mod Answers
+pub mod Sorted
+pub mod Rejects
 pub mod Samples
+pub mod Bounds

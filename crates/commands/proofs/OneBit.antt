@@ -6,7 +6,8 @@ use native.Mathlib.Decide.{decLt}
 use native.Mathlib.Omega.{arith}
 use Rattle.registers.specs.Protected.{bit}
 use Rattle.registers.proofs.Bits.{same-low, same-high}
-use Rattle.commands.specs.Common.{Bit, Three, Four, Five, bitOf, withBit, placeOf, OneBit}
+use Rattle.commands.specs.Commands.{Bit, Three, Four, Five}
+use Rattle.commands.specs.Bits.{bitOf, withBit, placeOf, OneBit}
 use Rattle.commands.proofs.Choices.{at-most}
 
 own : (b : Bit) (on : Bool) (x : ℕ) → bit (placeOf b) (withBit b on x) ≡ bitOf on

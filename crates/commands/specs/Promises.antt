@@ -12,7 +12,7 @@ use Rattle.registers.specs.Ranges.{InRange, Sized}
 use Rattle.registers.specs.declared.State.{State}
 use Rattle.registers.specs.declared.Event.{Event}
 use Rattle.commands.specs.Said.{codesOf, isRejected}
-use Rattle.commands.specs.Plans.{Effect, sentBy}
+use Rattle.commands.specs.Effects.{Effect, sentBy}
 use Rattle.commands.specs.Events.{effectOf}
 
 -- `event-keeps` in proofs/Keeps.antt: no event breaks a range

@@ -1,41 +1,28 @@
--- The commands of SPI (01, "SPI").
+-- The commands of SPI (01, "SPI"), where they are legal.
 use Prim.Native.Nat.{ℕ}
-use mathlib.Core.Bool.{true, false, cond}
-use mathlib.Core.List.{List, [], _∷_}
-use Rattle.codes.specs.Tables.{Entry, _is_, lookup}
 use Rattle.packet.specs.Packet.{packetBytes}
-use Rattle.wire.specs.Action.{driveLow, driveHigh, ss}
-use Rattle.registers.specs.Registers.{bitsIn}
-use Rattle.registers.specs.declared.State.{State}
+use Rattle.wire.specs.Action.{ss}
+use Rattle.registers.specs.Registers.{bitsOf}
 use Rattle.registers.specs.declared.Operand.the-variants as o
 use Rattle.registers.specs.declared.Wait.the-variants as v
 use Rattle.signals.specs.declared.Waveform.the-variants as w
-use Rattle.commands.specs.Plans.{Plan, ReturnsAndSends, ReturnsThenLow, Sends, SendsPacket, SendsLow, SendsLevel, plan, returns, sends, performs, awaits}
-pub use Rattle.commands.specs.declared.SpiCommand.{SpiCommand}
-pub use Rattle.commands.specs.declared.SpiCommand.the-variants as k
+use Rattle.commands.specs.Decisions.{Decision, ReturnsThenLow, Sends, SendsPacket, SendsLow, SendsLevel, decision, sends, performs, awaits}
+use Rattle.commands.specs.declared.Change.the-variants as c
+use Rattle.commands.specs.declared.SpiCommand.{SpiCommand}
+use Rattle.commands.specs.declared.SpiCommand.the-variants as k
 
-abbrev pub spiTable : List (Entry SpiCommand)
-spiTable =
-    0x40 is k.LoadConfig ∷ 0x41 is k.ReadConfig ∷ 0x42 is k.LoadSize ∷ 0x43 is k.ReadSize ∷ 0x44 is k.LoadPacket false ∷ 0x45 is k.ReadPacket
-    ∷ 0x46 is k.StartExchange ∷ 0x47 is k.DriveSs driveLow ∷ 0x48 is k.DriveSs driveHigh ∷ 0x49 is k.ReadSs ∷ 0x4A is k.ReadLow ∷ 0x4B is k.ExchangeAndRead
-    ∷ 0x4C is k.LoadPacket true ∷ []
-
-abbrev pub spiOf : ℕ → SpiCommand
-spiOf b = lookup k.NoSpi b spiTable
-
-abbrev pub runSpi : State → SpiCommand → Plan
-runSpi s k.LoadConfig = awaits s (v.One o.ToConfig)
--- "unconfigured, it returns 40, which is sent once, reports or not (H)"
-runSpi s k.ReadConfig = cond (s .page .configured) (sends s (Sends (s .page .config))) (sends s (ReturnsAndSends 0x40))
-runSpi s k.LoadSize = awaits s (v.One o.ToSize)
-runSpi s k.ReadSize = sends s (Sends (bitsIn (s .page)))
--- 44; and 4C, whose packet an exchange follows: "44, 46, 4B, 4C (H) unconfigured return 40"
-runSpi s (k.LoadPacket exchange) = cond (s .page .configured) (awaits s (v.Packet (packetBytes (bitsIn (s .page))) exchange)) (returns s 0x40)
-runSpi s k.ReadPacket = sends s SendsPacket
-runSpi s k.StartExchange = cond (s .page .configured) (performs s w.Exchange) (returns s 0x40)
-runSpi s (k.DriveSs verb) = performs s (w.Line verb ss)
-runSpi s k.ReadSs = plan s (w.SampleLine ss) SendsLevel
-runSpi s k.ReadLow = sends s SendsLow
+-- under CONFIG_SPI and PAKET_SIZE
+abbrev pub spiClause : ℕ → ℕ → SpiCommand → Decision
+spiClause config size k.LoadConfig = awaits (v.One o.ToConfig)
+spiClause config size k.ReadConfig = sends (Sends config)
+spiClause config size k.LoadSize = awaits (v.One o.ToSize)
+spiClause config size k.ReadSize = sends (Sends (bitsOf size))
+-- 44; and 4C, whose packet an exchange follows
+spiClause config size (k.LoadPacket exchange) = awaits (v.Packet (packetBytes (bitsOf size)) exchange)
+spiClause config size k.ReadPacket = sends SendsPacket
+spiClause config size k.StartExchange = performs w.Exchange
+spiClause config size (k.DriveSs verb) = performs (w.Line verb ss)
+spiClause config size k.ReadSs = decision c.Nothing (w.SampleLine ss) SendsLevel
+spiClause config size k.ReadLow = sends SendsLow
 -- "4B is 46, then 4A"
-runSpi s k.ExchangeAndRead = cond (s .page .configured) (plan s w.Exchange ReturnsThenLow) (returns s 0x40)
-runSpi s k.NoSpi = returns s 0x80
+spiClause config size k.ExchangeAndRead = decision c.Nothing w.Exchange ReturnsThenLow

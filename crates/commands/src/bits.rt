@@ -1,7 +1,7 @@
 // A bit of a register set or cleared, the others as they were.
 ghost use mathlib.Core.Path.{_≡_};
 ghost use Prim.Native.Nat.{_≤_};
-ghost use Rattle.commands.specs.Common.{bitOf, withBit};
+ghost use Rattle.commands.specs.Bits.{bitOf, withBit};
 use crate::Bit;
 
 // The bound is what keeps the sum below in a byte.

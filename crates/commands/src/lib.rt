@@ -1,17 +1,19 @@
-// The commands: what an event will change of the registers, which waveform it makes, and what it answers.
+// The commands: which event changes what, which waveform it makes, and what it answers.
 ghost use mathlib.Core.Path.{_≡_};
-ghost use Rattle.commands.specs.Changes.{decided};
 ghost use Rattle.registers.specs.Ranges.{InRange};
-ghost use Rattle.commands.specs.Events.{planOf};
+ghost use Rattle.commands.specs.Events.{decisionOf};
 
 mod bits;
 mod common;
+mod decisions;
+mod decoding;
 mod events;
 mod extended;
 mod i2c;
 mod one_wire;
+mod operands;
 mod packets;
-mod plans;
+mod rejections;
 mod spi;
 
 use registers::Event;
@@ -42,13 +44,13 @@ pub enum Answer {
 pub enum Change {
     Nothing,
     Reset,
-    Choose(u8),
+    Select(u8),
     ClearError,
     Save,
     Flags(u8),
     Latch(u8),
     Await(Wait),
-    Settle,
+    EndWait,
     Store(PortRegister, u8),
     Cycles(u8),
     Config(u8),
@@ -65,12 +67,28 @@ pub struct Decision {
     pub answer: Answer,
 }
 
-// The common commands by 01's source's names; NoCommon is a byte that is none.
+// A command of any section of 01, or what is none.
+pub enum Command {
+    Common(CommonCommand),
+    Extended(ExtendedCommand),
+    I2c(I2cCommand),
+    Spi(SpiCommand),
+    OneWire(OneWireCommand),
+    Unknown,
+}
+
+// Whether a command is legal, or the code that rejects it.
+pub enum Legality {
+    Legal,
+    Rejected(u8),
+}
+
+// The common commands by 001's names.
 pub enum CommonCommand {
     ResetDevice,
-    ChooseI2c,
-    ChooseSpi,
-    ChooseOneWire,
+    SelectI2c,
+    SelectSpi,
+    SelectOneWire,
     ReadError,
     SaveToEprom,
     ReadFromEprom,
@@ -84,7 +102,6 @@ pub enum CommonCommand {
     SetIog,
     DoExtended,
     ReadSerial,
-    NoCommon,
 }
 
 // The bits of a register that commands set and clear.
@@ -100,7 +117,6 @@ pub enum ExtendedCommand {
     SetBit(PortRegister, Bit, bool),
     LoadCycles,
     ReadCycles,
-    NoExtended,
 }
 
 // The commands of I2C; a read carries its answering bit.
@@ -111,7 +127,6 @@ pub enum I2cCommand {
     ReadByte(u8),
     DriveCs(u8),
     ReadCs,
-    NoI2c,
 }
 
 // The commands of SPI; a load carries whether an exchange follows.
@@ -127,31 +142,29 @@ pub enum SpiCommand {
     ReadSs,
     ReadLow,
     ExchangeAndRead,
-    NoSpi,
 }
 
 // The commands of 1-Wire.
 pub enum OneWireCommand {
     SendReset,
-    SendOneWire,
-    SendOneWireBit,
-    SendOneWireStrong,
-    ReadOneWire,
-    ReadOneWireBit,
+    SendByte,
+    SendBit,
+    SendStrong,
+    ReadByte,
+    ReadBit,
     LoadTimings,
     ReadTimings,
     ReleaseDq,
     PulsePb7 { unit: u8, wait: u16 },
-    NoOneWire,
 }
 
-// What an event will do, before any sample is read. The caller shows that the state breaks no range.
-pub fn plan_event(s: State, e: Event) -> Decision
+// What an event decides, before any sample is read. The caller shows that the state breaks no range.
+pub fn decision_of(s: State, e: Event) -> Decision
     requires { ⌜ InRange s ⌝ }
-    ensures { λ p. ⌜ decided s p ≡ planOf s e ⌝ }
+    ensures { λ r. ⌜ r ≡ decisionOf s e ⌝ }
 {
     match e {
         Event::Byte(x) => events::byte(s, x),
-        Event::Fault(f) => plans::returning(s, registers::fault_code(f)),
+        Event::Fault(f) => decisions::returning(registers::fault_code(f)),
     }
 }

@@ -1,36 +1,56 @@
-// Packet bytes: what each decides.
+// Packet and timing bytes: what each decides.
 ghost use mathlib.Core.Path.{_≡_};
-ghost use Rattle.commands.specs.Changes.{decided};
-ghost use Prim.Native.Nat.{_/_, _+_, _≤_, _<_};
-ghost use Rattle.packet.specs.Packet.{width};
-ghost use Rattle.commands.specs.Events.{packetPlan};
+ghost use Prim.Native.Nat.{_≤_};
+ghost use Rattle.packet.specs.Packet.{packetBytes};
+ghost use Rattle.registers.specs.Registers.{bitsOf, timingBytes};
+ghost use Rattle.commands.specs.Operands.{packetClause, timingsClause};
 use crate::Answer;
 use crate::Change;
 use crate::Decision;
-use crate::plans::decide;
-use registers::State;
+use crate::decisions::deciding;
 use registers::Wait;
+use registers::parts::packet_bytes;
 use signals::Waveform;
 
 // A packet byte, with so many to come, itself among them.
-pub(crate) fn packet_byte(s: State, left: u8, exchange: bool, x: u8) -> Decision
-    requires { ⌜ (s .page .size < width) × (1 ≤ left) × (left ≤ s .page .size / 8 + 1) ⌝ }
-    ensures { λ p. ⌜ decided s p ≡ packetPlan s left exchange x ⌝ }
+pub(crate) fn packet_byte(size: u8, left: u8, exchange: bool, x: u8) -> Decision
+    requires { ⌜ (1 ≤ left) × (left ≤ packetBytes (bitsOf size)) ⌝ }
+    ensures { λ p. ⌜ p ≡ packetClause (bitsOf size) left exchange x ⌝ }
 {
-    let at = s.page.size / 8 + 1 - left;
+    let at = packet_bytes(size) - left;
     if left == 1 {
         let change = Change::LoadPacket { at, byte: x };
         if exchange {
-            return decide(s, change, Waveform::Exchange, Answer::ReturnsTwice);
+            return deciding(change, Waveform::Exchange, Answer::ReturnsTwice);
         }
-        return decide(s, change, Waveform::Still, Answer::Returns(codes::NO_ERROR));
+        return deciding(change, Waveform::Still, Answer::Returns(codes::NO_ERROR));
     }
     let wait = Wait::Packet {
         left: left - 1,
         exchange,
     };
-    decide(
-        s,
+    deciding(
+        Change::Hold { wait, at, byte: x },
+        Waveform::Still,
+        Answer::Silent,
+    )
+}
+
+// A timing byte, with so many to come, itself among them; all are stored at the last.
+pub(crate) fn timing_byte(left: u8, x: u8) -> Decision
+    requires { ⌜ (1 ≤ left) × (left ≤ timingBytes) ⌝ }
+    ensures { λ p. ⌜ p ≡ timingsClause left x ⌝ }
+{
+    let at = registers::TIMINGS as u8 - left;
+    if left == 1 {
+        return deciding(
+            Change::LoadTimings { at, byte: x },
+            Waveform::Still,
+            Answer::Returns(codes::NO_ERROR),
+        );
+    }
+    let wait = Wait::Timings { left: left - 1 };
+    deciding(
         Change::Hold { wait, at, byte: x },
         Waveform::Still,
         Answer::Silent,

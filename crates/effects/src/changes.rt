@@ -1,9 +1,8 @@
 // Changes of the state, made: one call, so that the state goes through one place and not through every command.
 ghost use mathlib.Core.Path.{_≡_};
 ghost use Prim.Native.Nat.{_<_};
-ghost use lib.ListN.{set};
 ghost use Rattle.packet.specs.Packet.{width};
-ghost use Rattle.registers.specs.Registers.{holding, settled};
+ghost use Rattle.registers.specs.Registers.{withPage, ended};
 ghost use Rattle.commands.specs.Changes.{changed};
 use crate::image::image;
 use commands::Change;
@@ -11,10 +10,16 @@ use registers::Page;
 use registers::PortRegister;
 use registers::State;
 use registers::Wait;
+use registers::parts::bits_of;
+use registers::parts::high_first;
+use registers::parts::timings_in;
+use registers::parts::with_byte;
+use registers::parts::with_page;
+use registers::parts::with_wait;
 
-// Reinit, with other flags: all that 01, 02 and 03 change, and a part of 00.
+// 01, 02, 03, and a part of 00: other flags, and every port register cleared.
 fn reinit(mut s: State, flags: u8) -> State
-    ensures { λ t. ⌜ t ≡ changed s (Change.Choose flags) ⌝ }
+    ensures { λ t. ⌜ t ≡ changed s (Change.Select flags) ⌝ }
 {
     s.page.flags = flags;
     s.page.ddrb = 0;
@@ -38,7 +43,7 @@ fn reset(mut s: State) -> State
     reinit(s, kept)
 }
 
-// 04: ERROR zero.
+// 04: ERROR is 0.
 fn clear_error(mut s: State) -> State
     ensures { λ t. ⌜ t ≡ changed s Change.ClearError ⌝ }
 {
@@ -46,7 +51,7 @@ fn clear_error(mut s: State) -> State
     s
 }
 
-// 05: the image stored.
+// 05: the EPROM holds the image of the page.
 fn save(mut s: State) -> State
     ensures { λ t. ⌜ t ≡ changed s Change.Save ⌝ }
 {
@@ -58,7 +63,7 @@ fn save(mut s: State) -> State
     s
 }
 
-// 07 to 0A: other flags.
+// 07 to 0A: COMMON_FLAGS are f.
 fn flags(mut s: State, f: u8) -> State
     ensures { λ t. ⌜ t ≡ changed s (Change.Flags f) ⌝ }
 {
@@ -66,7 +71,7 @@ fn flags(mut s: State, f: u8) -> State
     s
 }
 
-// 1C: another latch of D.
+// 1C: PORTD is x.
 fn latch(mut s: State, x: u8) -> State
     ensures { λ t. ⌜ t ≡ changed s (Change.Latch x) ⌝ }
 {
@@ -74,91 +79,64 @@ fn latch(mut s: State, x: u8) -> State
     s
 }
 
-// Another wait, with what is held for it.
-fn wait_for(s: State, wait: Wait, held: [u8; registers::HELD]) -> State
-    ensures { λ t. ⌜ t ≡ holding s wait held ⌝ }
+// Nothing is waited for or held.
+fn end_wait(s: State) -> State
+    ensures { λ t. ⌜ t ≡ changed s Change.EndWait ⌝ }
 {
-    let page = s.page;
-    let shared = s.shared;
-    State {
-        page,
-        shared,
-        wait,
-        held,
-    }
+    with_wait(s, Wait::Nothing, [0; registers::HELD])
 }
 
-// Nothing waited for or held.
-fn settle(s: State) -> State
-    ensures { λ t. ⌜ t ≡ changed s Change.Settle ⌝ }
+// The page is another, and nothing is waited for or held.
+fn end_with_page(s: State, page: Page) -> State
+    ensures { λ t. ⌜ t ≡ ended (withPage s page) ⌝ }
 {
-    wait_for(s, Wait::Nothing, [0; registers::HELD])
+    end_wait(with_page(s, page))
 }
 
-// Another page, and nothing waited for or held.
-fn settle_page(mut s: State, page: Page) -> State
-    ensures { λ t. ⌜ t ≡ settled s page ⌝ }
-{
-    s.page = page;
-    settle(s)
-}
-
-// A port register another, and nothing waited for.
+// A port register is x, and nothing is waited for.
 fn store(s: State, r: PortRegister, x: u8) -> State
     ensures { λ t. ⌜ t ≡ changed s (Change.Store r x) ⌝ }
 {
     let old = s.page;
     let page = registers::ports::store_register(old, r, x);
-    settle_page(s, page)
+    end_with_page(s, page)
 }
 
-// The IOG count another, and nothing waited for.
+// The IOG count is x, and nothing is waited for.
 fn cycles(mut s: State, x: u8) -> State
     ensures { λ t. ⌜ t ≡ changed s (Change.Cycles x) ⌝ }
 {
     s.shared.cycles = x;
-    settle(s)
+    end_wait(s)
 }
 
-// CONFIG_SPI another and SPI configured, and nothing waited for.
+// CONFIG_SPI is x, SPI is configured, and nothing is waited for.
 fn config(mut s: State, x: u8) -> State
     ensures { λ t. ⌜ t ≡ changed s (Change.Config x) ⌝ }
 {
     s.page.config = x;
     s.page.configured = true;
-    settle(s)
+    end_wait(s)
 }
 
-// The size register another, and nothing waited for.
+// The size register is x, and nothing is waited for.
 fn size(mut s: State, x: u8) -> State
     ensures { λ t. ⌜ t ≡ changed s (Change.Size x) ⌝ }
 {
     s.page.size = x;
-    settle(s)
+    end_wait(s)
 }
 
-// The bytes held with one more at its place; past the end nothing is stored.
-fn with_byte(old: [u8; registers::HELD], at: u8, byte: u8) -> [u8; registers::HELD]
-    ensures { λ h. ⌜ h ≡ set old at byte ⌝ }
-{
-    let i = at as usize;
-    let mut held = old;
-    if i < registers::HELD {
-        held[i] = byte;
-    }
-    held
-}
-
-// One more byte held, and more waited for.
+// One more byte is held, and more are waited for.
 fn hold(s: State, wait: Wait, at: u8, byte: u8) -> State
     ensures { λ t. ⌜ t ≡ changed s (Change.Hold wait at byte) ⌝ }
 {
     let old = s.held;
     let held = with_byte(old, at, byte);
-    wait_for(s, wait, held)
+    with_wait(s, wait, held)
 }
 
-// The last packet byte: the packet register loaded. The caller shows that the size register is in range.
+// The last packet byte: the packet register is loaded. The caller shows that the size register is in range.
 fn load_packet(s: State, at: u8, byte: u8) -> State
     requires { ⌜ s .page .size < width ⌝ }
     ensures { λ t. ⌜ t ≡ changed s (Change.LoadPacket at byte) ⌝ }
@@ -166,21 +144,23 @@ fn load_packet(s: State, at: u8, byte: u8) -> State
     let old = s.held;
     let held = with_byte(old, at, byte);
     let mut page = s.page;
-    let high = page.config / 4 % 2 == 1;
-    let r = packet::load_packet(&held, page.size + 1, high);
+    let n = bits_of(page.size);
+    let high = high_first(page.config);
+    let r = packet::load_packet(&held, n, high);
     page.packet = r;
-    settle_page(s, page)
+    end_with_page(s, page)
 }
 
-// The ninth timing byte: all stored.
+// The ninth timing byte: all are stored.
 fn load_timings(s: State, at: u8, byte: u8) -> State
     ensures { λ t. ⌜ t ≡ changed s (Change.LoadTimings at byte) ⌝ }
 {
     let old = s.held;
     let held = with_byte(old, at, byte);
     let mut page = s.page;
-    page.timings = held;
-    settle_page(s, page)
+    let ts = timings_in(held);
+    page.timings = ts;
+    end_with_page(s, page)
 }
 
 // The state with a change made. The caller shows that the size register is in range.
@@ -191,13 +171,13 @@ pub fn apply(s: State, change: Change) -> State
     match change {
         Change::Nothing => s,
         Change::Reset => reset(s),
-        Change::Choose(f) => reinit(s, f),
+        Change::Select(f) => reinit(s, f),
         Change::ClearError => clear_error(s),
         Change::Save => save(s),
         Change::Flags(f) => flags(s, f),
         Change::Latch(x) => latch(s, x),
-        Change::Await(wait) => wait_for(s, wait, [0; registers::HELD]),
-        Change::Settle => settle(s),
+        Change::Await(wait) => with_wait(s, wait, [0; registers::HELD]),
+        Change::EndWait => end_wait(s),
         Change::Store(r, x) => store(s, r, x),
         Change::Cycles(x) => cycles(s, x),
         Change::Config(x) => config(s, x),

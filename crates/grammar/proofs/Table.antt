@@ -6,16 +6,9 @@ use mathlib.Core.List.{List, [], _∷_, List·Memᴰ, List·Memᴰ·head, List·
 use native.Mathlib.Omega.{arith}
 use borrow.Author.Tests.{eq-eqb, not-true}
 use lib.Dec.{T, eqb, eqb→eq}
+use Rattle.codes.proofs.Both.{both-left, both-right}
 use Rattle.grammar.specs.Grammar.{Command, commands, extendedCommands}
 use Rattle.grammar.specs.Scanner.{Known, Extension, rowOf, openingOf, extensionOf}
-
-and-left : (a b : Bool) → a && b ≡ true → a ≡ true
-and-left true b e = refl
-and-left false b e = e
-
-and-right : (a b : Bool) → a && b ≡ true → b ≡ true
-and-right true b e = e
-and-right false b e = absurd (false≢true e)
 
 -- A CODE STANDS IN EACH TABLE ONCE
 
@@ -40,8 +33,8 @@ unfolding commands
 commands-fresh = refl
 
 fresh-mem : (b : ℕ) {k : Command} {l : List Command} → fresh b l ≡ true → List·Memᴰ k l → eqb (k .code) b ≡ false
-fresh-mem b {k} f (List·Memᴰ·head {x = x} {xs = xs} e) = ap (λ (y : Command). eqb (y .code) b) e ∙ not-true _ (and-left _ (fresh b xs) f)
-fresh-mem b {k} f (List·Memᴰ·tail {x = x} {xs = xs} m) = fresh-mem b (and-right (not (eqb (x .code) b)) (fresh b xs) f) m
+fresh-mem b {k} f (List·Memᴰ·head {x = x} {xs = xs} e) = ap (λ (y : Command). eqb (y .code) b) e ∙ not-true _ (both-left _ (fresh b xs) f)
+fresh-mem b {k} f (List·Memᴰ·tail {x = x} {xs = xs} m) = fresh-mem b (both-right (not (eqb (x .code) b)) (fresh b xs) f) m
 
 -- LOOKING A BYTE UP
 
@@ -59,8 +52,8 @@ row-complete : {k : Command} {l : List Command} → distinct l ≡ true → List
 row-complete {k} d (List·Memᴰ·head {x = x} {xs = xs} e) =
     ap (λ (t : Bool). cond t (Known x) (rowOf (k .code) xs)) (eq-eqb (k .code) (x .code) (ap (λ (y : Command). y .code) e)) ∙ ap Known (sym e)
 row-complete {k} d (List·Memᴰ·tail {x = x} {xs = xs} m) =
-    ap (λ (t : Bool). cond t (Known x) (rowOf (k .code) xs)) (fresh-mem (x .code) (and-left (fresh (x .code) xs) (distinct xs) d) m)
-    ∙ row-complete (and-right (fresh (x .code) xs) (distinct xs) d) m
+    ap (λ (t : Bool). cond t (Known x) (rowOf (k .code) xs)) (fresh-mem (x .code) (both-left (fresh (x .code) xs) (distinct xs) d) m)
+    ∙ row-complete (both-right (fresh (x .code) xs) (distinct xs) d) m
 
 pub row-no-extension : (b : ℕ) (l : List Command) → rowOf b l ≡ Extension → ⊥
 row-no-extension b [] e = let z : _≡_ {A = ℕ} 0 1 = cc in omega arith

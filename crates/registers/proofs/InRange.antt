@@ -1,11 +1,12 @@
 -- The range test says exactly the facts of 01's table. Assumes nothing.
 use Prim.Native.Nat.{ℕ, _+_, _/_, _%_, _<_, _≤_}
 use mathlib.Core.Path.{_≡_, refl, subst}
-use mathlib.Core.Bool.{Bool, true, false, _&&_, false≢true}
+use mathlib.Core.Bool.{Bool, true, false, _&&_}
 use mathlib.Core.Logic.{_↔_}
 use native.Mathlib.Omega.{arith}
 use borrow.Author.Tests.{lt-ltb, le-leb, eq-eqb, ltb-true, leb-true, eqb-true}
 use lib.Dec.{eqb, leb, ltb}
+use Rattle.codes.proofs.Both.{both-left, both-right}
 use Rattle.packet.specs.Packet.{width, packetBytes}
 use Rattle.registers.specs.Registers.{Page, State, Operand, ToPort, ToCycles, ToI2c, ToConfig, ToSize, ToOneWire, ToOneWireBit, ToOneWireStrong, Wait, Nothing, One, Extended, Packet, Timings, spiSelected, oneWireSelected, bitsOf, bitsIn, timingBytes}
 use Rattle.registers.specs.Ranges.{selectedCount, operandFits, waitFits, pageFits, PageInRange, OperandInRange, WaitInRange, InRange, RangeTest}
@@ -13,14 +14,6 @@ use Rattle.registers.specs.Ranges.{selectedCount, operandFits, waitFits,
 -- ceil(N/8) by the size register
 pub most-left : (size : ℕ) → size / 8 + 1 ≡ packetBytes (bitsOf size)
 most-left size = omega arith
-
-pub both-left : (a b : Bool) → a && b ≡ true → a ≡ true
-both-left true b e = refl
-both-left false b e = e
-
-pub both-right : (a b : Bool) → a && b ≡ true → b ≡ true
-both-right true b e = e
-both-right false b e = absurd (false≢true e)
 
 both : {a b : Bool} → a ≡ true → b ≡ true → a && b ≡ true
 both p q = rw (p, q)
@@ -108,8 +101,8 @@ range-test s =
 pub wait-as : (s : State) (w : Wait) → InRange s → s .wait ≡ w → WaitInRange w (s .page .flags) (s .page .configured) (bitsIn (s .page))
 wait-as s w r e = subst (λ (v : Wait). WaitInRange v (s .page .flags) (s .page .configured) (bitsIn (s .page))) e (r .wait)
 
-pub packet-left : (s : State) (left : ℕ) (exchange : Bool) → InRange s → s .wait ≡ Packet left exchange → (s .page .size < width) × (1 ≤ left) × (left ≤ s .page .size / 8 + 1)
-packet-left s left exchange r e = let t = wait-as s (Packet left exchange) r e in (r .page .size-register, t .one-or-more, omega (arith, most-left (s .page .size), t .packet-or-less))
+pub packet-left : (s : State) (left : ℕ) (exchange : Bool) → InRange s → s .wait ≡ Packet left exchange → (1 ≤ left) × (left ≤ packetBytes (bitsIn (s .page)))
+packet-left s left exchange r e = let t = wait-as s (Packet left exchange) r e in (t .one-or-more, t .packet-or-less)
 
 pub timings-left : (s : State) (left : ℕ) → InRange s → s .wait ≡ Timings left → (1 ≤ left) × (left ≤ timingBytes)
 timings-left s left r e = let t = wait-as s (Timings left) r e in (t .one-or-more, t .nine-or-less)

@@ -7,7 +7,7 @@ use native.Mathlib.Omega.{arith}
 use borrow.Author.Tests.{ltb-true, ltb-false, lt-ltb, le-ltb, not-true}
 use lib.Dec.{ltb}
 use lib.ListN.{length, drop}
-use Rattle.registers.proofs.InRange.{both-left, both-right}
+use Rattle.codes.proofs.Both.{both-left, both-right}
 use Rattle.registers.specs.declared.Event.{Event}
 use Rattle.registers.specs.declared.State.{State}
 use Rattle.bridge.specs.Calls.{Given}

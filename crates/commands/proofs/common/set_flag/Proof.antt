@@ -9,4 +9,4 @@ set-flag-spec =
     (tie.spec
     (λ c κs. search needs)
     (λ c κs. search needs)
-    (λ c. rw (← c .before .with-bit .ensures) (c .decide .ensures)))
+    (λ c. rw (← c .before .with-bit .ensures) (c .deciding .ensures)))

@@ -10,4 +10,4 @@ set-iog-spec =
     (λ c κs. search needs)
     (λ c κs. search needs)
     (λ c κs. search needs)
-    (λ c. rw (← c .before .before .with-bit .ensures, ← c .before .with-bit2 .ensures) (c .decide .ensures)))
+    (λ c. rw (← c .before .before .with-bit .ensures, ← c .before .with-bit2 .ensures) (c .deciding .ensures)))

@@ -1,35 +1,46 @@
 -- By what is waited for, the clause of its own.
 use borrow.Author.Needs.{needs}
-use mathlib.Core.Path.{_≡_, sym, ap, _∙_}
 use Prim.Native.Nat.{ℕ}
+use mathlib.Core.Path.{_≡_, refl, sym, ap, _∙_}
+use mathlib.Core.List.{[], _∷_}
+use mathlib.Core.Logic.{⊎-elim}
+use native.Mathlib.Omega.{arith}
+use denote.Enum.Declared.{tagOf}
+use types.Run.{OneOf}
 use Rattle.registers.specs.declared.State.{State}
 use Rattle.registers.specs.declared.Wait.{Wait}
+use Rattle.registers.specs.declared.Wait.the-variants as v
+use Rattle.registers.proofs.Wait as wait-enum
 use Rattle.registers.proofs.InRange.{packet-left, timings-left}
-use Rattle.commands.specs.Extended.{runExtended}
-use Rattle.commands.specs.Events.{bytePlan}
+use Rattle.commands.specs.Commands.{commandOf}
+use Rattle.commands.specs.Events.{commandDecision, codeOf, byteDecision}
 use Rattle.commands.proofs.events.byte.Statement.{statement}
 use Rattle.commands.proofs.events.byte.Tie as tie
 
-by-wait : (s : State) (w : Wait) (x : ℕ) → s .wait ≡ w → bytePlan s w x ≡ bytePlan s (s .wait) x
-by-wait s w x e = ap (λ (v : Wait). bytePlan s v x) (sym e)
+by-wait : (s : State) (w : Wait) (x : ℕ) → s .wait ≡ w → byteDecision s w x ≡ byteDecision s (s .wait) x
+by-wait s w x e = ap (λ (v : Wait). byteDecision s v x) (sym e)
+
+-- where nothing is waited for, or the byte after 1D, a byte is a command's
+by-command : (s : State) (w : Wait) (x : ℕ) → OneOf (0 ∷ 2 ∷ []) (tagOf wait-enum.the-type w) → commandDecision s (commandOf (codeOf w x)) ≡ byteDecision s w x
+by-command s v.Nothing x h = refl
+by-command s (v.One a) x h = ⊎-elim (λ q. absurd (omega arith)) (λ q. absurd (omega arith)) h
+by-command s v.Extended x h = refl
+by-command s (v.Packet left exchange) x h = ⊎-elim (λ q. absurd (omega arith)) (λ q. absurd (omega arith)) h
+by-command s (v.Timings left) x h = ⊎-elim (λ q. absurd (omega arith)) (λ q. absurd (omega arith)) h
 
 pub byte-spec : {M : Type 1} → statement M
 byte-spec =
     tie.close
     (tie.spec
-    (λ c. search needs)
+    (λ c κs. search needs)
     (λ c κs. search needs)
     (λ c. search needs)
-    (λ c κs. search needs)
-    (λ c. search needs)
-    (λ c κs. search needs)
     (λ c κs. search needs)
     (λ c. search needs)
     (λ c κs. packet-left (c .before .before .before .args .s) _ _ (c .before .before .before .pre) (c .before .w2 .given .1))
     (λ c. search needs)
     (λ c κs. timings-left (c .before .before .before .args .s) _ (c .before .before .before .pre) (c .before .w3 .given .1))
-    (λ c. c .command .ensures ∙ by-wait (c .before .before .before .args .s) _ (c .before .before .before .args .x) (c .before .enum-told .given .1))
-    (λ c. c .operand .ensures ∙ by-wait (c .before .before .before .before .args .s) _ (c .before .before .before .before .args .x) (c .before .before .w .given .1))
-    (λ c. c .run .ensures ∙ ap (runExtended (c .before .before .before .before .args .s)) (c .before .decode .ensures) ∙ by-wait (c .before .before .before .before .args .s) _ (c .before .before .before .before .args .x) (c .before .before .enum-told2 .given .1))
+    (λ c. let a = c .before .before .before .args in c .command .ensures ∙ ap (λ (n : ℕ). commandDecision (a .s) (commandOf n)) (c .before .code-of .ensures) ∙ by-command (a .s) (a .s .wait) (a .x) (c .before .before .match .keys1))
+    (λ c. c .clause .ensures ∙ by-wait (c .before .before .before .before .args .s) _ (c .before .before .before .before .args .x) (c .before .before .w .given .1))
     (λ c. c .packet-byte .ensures ∙ by-wait (c .before .before .before .before .args .s) _ (c .before .before .before .before .args .x) (c .before .before .w2 .given .1))
     (λ c. c .timing-byte .ensures ∙ by-wait (c .before .before .before .before .args .s) _ (c .before .before .before .before .args .x) (c .before .before .w3 .given .1)))

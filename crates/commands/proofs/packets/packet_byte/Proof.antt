@@ -2,7 +2,6 @@
 use borrow.Author.Needs.{needs}
 use mathlib.Core.Path.{_∙_}
 use borrow.Author.Tests.{eq-eqb, ne-eqb}
-use Rattle.registers.proofs.InRange.{most-left}
 use Rattle.commands.proofs.Choices.{chosen}
 use Rattle.commands.proofs.packets.packet_byte.Statement.{statement}
 use Rattle.commands.proofs.packets.packet_byte.Tie as tie
@@ -11,12 +10,12 @@ pub packet-byte-spec : {M : Type 1} → statement M
 packet-byte-spec =
     tie.close
     (tie.spec
-    (λ c. search needs)
-    (λ c. search needs)
     (λ c κs. search needs)
-    (λ c. rw (← most-left (c .before .before .before .before .args .s .page .size), c .before .if2 .taken) (c .decide .ensures ∙ chosen _ _ _ (eq-eqb _ _ (c .before .before .if1 .taken))))
-    (λ c κs. search needs)
-    (λ c. rw (← most-left (c .before .before .before .before .args .s .page .size), c .before .if2 .left) (c .decide2 .ensures ∙ chosen _ _ _ (eq-eqb _ _ (c .before .before .if1 .taken))))
     (λ c. search needs)
     (λ c κs. search needs)
-    (λ c. rw (← most-left (c .before .before .before .args .s .page .size)) (c .decide3 .ensures ∙ chosen _ _ _ (ne-eqb _ _ (c .before .if1 .left)))))
+    (λ c. rw (← c .before .before .before .packet-bytes .ensures, c .before .if2 .taken) (c .deciding .ensures ∙ chosen _ _ _ (eq-eqb _ _ (c .before .before .if1 .taken))))
+    (λ c κs. search needs)
+    (λ c. rw (← c .before .before .before .packet-bytes .ensures, c .before .if2 .left) (c .deciding2 .ensures ∙ chosen _ _ _ (eq-eqb _ _ (c .before .before .if1 .taken))))
+    (λ c. search needs)
+    (λ c κs. search needs)
+    (λ c. rw (← c .before .before .packet-bytes .ensures) (c .deciding3 .ensures ∙ chosen _ _ _ (ne-eqb _ _ (c .before .if1 .left)))))
