@@ -2,5 +2,4 @@
 pub mod Flags
 pub mod InRange
 pub mod Bits
-pub mod Listed
 pub mod Protected

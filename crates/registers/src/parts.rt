@@ -127,15 +127,7 @@ pub fn with_byte(old: [u8; HELD], at: u8, byte: u8) -> [u8; HELD]
 pub fn timings_in(held: [u8; HELD]) -> [u8; TIMINGS]
     ensures { λ ts. ⌜ ts ≡ timingsIn held ⌝ }
 {
-    [
-        held[0],
-        held[1],
-        held[2],
-        held[3],
-        held[4],
-        held[5],
-        held[6],
-        held[7],
-        held[8],
-    ]
+    let mut ts = [0u8; TIMINGS];
+    wire::put_bytes(&mut ts, 0, &held[0..TIMINGS]);
+    ts
 }

@@ -21,6 +21,11 @@ pub overwrite-right : (l : List ℕ) (at : ℕ) (xs : List ℕ) → Overwritten 
 unfolding overwrite
 overwrite-right l at xs = record { size = overwrite-length l at xs; parts = sets-eq xs l at }
 
+-- a row written over another of its length
+pub written-whole : (l xs : List ℕ) {r : List ℕ} {next : ℕ} → length l ≡ length xs → Written l 0 xs r next → r ≡ xs
+written-whole l xs e w =
+    w .bytes ∙ overwrite-right l 0 xs .parts (omega arith) ∙ ap (λ (r : List ℕ). xs ++ r) (drop-of-length-le l {i = 0 + length xs} (omega arith)) ∙ append-nil xs
+
 -- a mark past the end leaves room for nothing, not even for no byte
 pub past-the-end : (size mark need : ℕ) → size < mark → fitsIn size mark need ≡ false
 past-the-end size mark need h = lt-leb (mark + need) size (omega arith)

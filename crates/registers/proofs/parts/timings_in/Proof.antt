@@ -1,9 +1,11 @@
--- The first nine, place by place.
+-- The first nine are copied whole.
 use borrow.Author.Needs.{needs}
 use mathlib.Core.Path.{sym}
 use native.Mathlib.Omega.{arith}
+use lib.ListN.{take}
+use lib.Seq.{length-take-le}
+use Rattle.wire.proofs.Buffers.{written-whole}
 use Rattle.registers.specs.Registers.{timingBytes}
-use Rattle.registers.proofs.Listed.{front-listed}
 use Rattle.registers.proofs.parts.timings_in.Statement.{statement}
 use Rattle.registers.proofs.parts.timings_in.Tie as tie
 
@@ -15,9 +17,7 @@ timings-in-spec =
     (λ c. search needs)
     (λ c. search needs)
     (λ c. search needs)
-    (λ c. search needs)
-    (λ c. search needs)
-    (λ c. search needs)
-    (λ c. search needs)
-    (λ c. search needs)
-    (λ c. sym (front-listed (c .args .t1) timingBytes (omega (arith, c .good .0)))))
+    (λ c κs. search needs)
+    (λ c.
+    let s = c .before .before .before .before .before in
+    written-whole _ (take timingBytes (s .args .t1)) (sym (length-take-le timingBytes (s .args .t1) (omega (arith, s .good .0)))) (c .before .put-bytes .ensures)))
