@@ -1,5 +1,5 @@
 -- THEOREM: a byte's effect agrees with the grammar's scanner, seen through the view of the state. Assumes nothing.
-use Prim.Native.Nat.{ℕ, _<_}
+use Prim.Native.Nat.{ℕ, _+_, _<_}
 use mathlib.Core.Path.{refl, sym, subst}
 use mathlib.Core.List.{List}
 use Rattle.grammar.specs.Scanner.{Opening, opened, scanAt, scan}
@@ -12,40 +12,37 @@ use Rattle.registers.specs.declared.Wait.{Wait}
 use Rattle.registers.specs.declared.Wait.the-variants as v
 use Rattle.registers.specs.declared.Event.the-variants as e
 use Rattle.registers.proofs.InRange.{packet-left, timings-left}
-use Rattle.signals.specs.Waveforms.{waveOf}
 use Rattle.commands.specs.Said.{codesOf}
-use Rattle.commands.specs.Extended.{extendedOf, runExtended}
-use Rattle.commands.specs.Events.{commandPlan, bytePlan, planOf, effectOf}
+use Rattle.commands.specs.Commands.{commandOf}
+use Rattle.commands.specs.Events.{commandDecision, byteDecision, decisionOf, effectOf}
 use Rattle.bridge.specs.Views.{contextOf}
 use Rattle.bridge.proofs.View.{placeOf, viewOf}
-use Rattle.bridge.proofs.Openings.{opening-is, extension-is}
-use Rattle.bridge.proofs.Plans.{PlanAgrees, carried-agrees}
+use Rattle.bridge.proofs.Openings.{opening-is, extension-is, between-is, extended-is}
+use Rattle.bridge.proofs.Decisions.{DecisionAgrees, carried-agrees}
 use Rattle.bridge.proofs.Between.{command-agrees}
-use Rattle.bridge.proofs.Inside.{extended-agrees, operand-agrees, packet-agrees, timings-agree}
+use Rattle.bridge.proofs.Inside.{after-agrees, operand-agrees, packet-agrees, timings-agree}
 
 module _ (page : Page) (shared : Shared) (held : List ℕ) (b : ℕ) (h : b < 256) where
   -- the state with a wait, so that the wait can be taken apart
   abbrev at : Wait → State
   at a = record { page = page; shared = shared; wait = a; held = held }
 
-  plan-agrees : (a : Wait) → InRange (at a) → PlanAgrees (at a) (scanAt (placeOf a) (contextOf (at a)) b) (bytePlan (at a) a b)
-  plan-agrees v.Nothing n =
+  decision-agrees : (a : Wait) → InRange (at a) → DecisionAgrees (at a) (scanAt (placeOf a) (contextOf (at a)) b) (byteDecision (at a) a b)
+  decision-agrees v.Nothing n =
       let s = at v.Nothing in
-      subst (λ (o : Opening). PlanAgrees s (opened o (contextOf s) b) (commandPlan s b)) (sym (opening-is b h)) (command-agrees page shared held b (n .page .one-interface))
-  plan-agrees (v.One a) n = operand-agrees (at (v.One a)) b a
-  plan-agrees v.Extended n =
+      subst (λ (o : Opening). DecisionAgrees s (opened o (contextOf s) b) (commandDecision s (commandOf b))) (sym (opening-is b h)) (command-agrees page shared held b (n .page .one-interface) (commandOf b) (between-is b h))
+  decision-agrees (v.One a) n = operand-agrees (at (v.One a)) b a
+  decision-agrees v.Extended n =
       let s = at v.Extended in
-      subst (λ (o : Opening). PlanAgrees s (opened o (contextOf s) b) (runExtended s (extendedOf b))) (sym (extension-is b h)) (extended-agrees s b (extendedOf b))
-  plan-agrees (v.Packet left exchange) n =
+      subst (λ (o : Opening). DecisionAgrees s (opened o (contextOf s) b) (commandDecision s (commandOf (0x1D00 + b)))) (sym (extension-is b h)) (after-agrees s b (commandOf (0x1D00 + b)) (extended-is b h))
+  decision-agrees (v.Packet left exchange) n =
       let s = at (v.Packet left exchange) in
       packet-agrees s b left exchange (packet-left s left exchange n refl .0)
-  plan-agrees (v.Timings left) n =
+  decision-agrees (v.Timings left) n =
       let s = at (v.Timings left) in
       timings-agree s b left (timings-left s left n refl .0)
 
 pub byte-agrees : (s : State) (b : ℕ) (ss : List ℕ) (m : ℕ) → b < 256 → InRange s
     → Agree (scan (viewOf s) b) (codesOf ((effectOf s (e.Byte b) ss m) .said)) (viewOf s) (viewOf ((effectOf s (e.Byte b) ss m) .state))
 unfolding effectOf
-byte-agrees s b ss m h n =
-    let p = planOf s (e.Byte b) in
-    carried-agrees s (scan (viewOf s) b) p (waveOf (p .state .page) (p .wave) ss m) (plan-agrees (s .page) (s .shared) (s .held) b h (s .wait) n)
+byte-agrees s b ss m h n = carried-agrees s (scan (viewOf s) b) (decisionOf s (e.Byte b)) ss m (decision-agrees (s .page) (s .shared) (s .held) b h (s .wait) n)

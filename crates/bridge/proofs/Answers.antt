@@ -10,7 +10,7 @@ use Rattle.wire.proofs.Actions.{bytes-length, actions-count}
 use Rattle.registers.specs.Ranges.{stateFits}
 use Rattle.registers.specs.declared.State.{State}
 use Rattle.registers.specs.declared.Event.{Event}
-use Rattle.commands.specs.Plans.{sentBy}
+use Rattle.commands.specs.Effects.{sentBy}
 use Rattle.refusals.specs.declared.Refusal.the-variants.{Ranges, Samples, Actions, Replies}
 use Rattle.bridge.specs.Calls.{Bridge, Lent, effect, given, refusal, acceptance, answerOf}
 

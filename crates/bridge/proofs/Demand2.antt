@@ -13,7 +13,7 @@ use Rattle.registers.specs.Ranges.{stateFits, InRange}
 use Rattle.registers.specs.declared.Event.{Event}
 use Rattle.registers.proofs.InRange.{range-test}
 use Rattle.commands.specs.Said.{isRejected}
-use Rattle.commands.specs.Plans.{Effect, sentBy}
+use Rattle.commands.specs.Effects.{Effect, sentBy}
 use Rattle.commands.proofs.Rejects.{event-rejects}
 use Rattle.commands.proofs.Samples.{event-takes, event-same}
 use Rattle.refusals.specs.declared.Refusal.the-variants.{Ranges, Actions, Replies}

@@ -8,12 +8,12 @@ use Rattle.grammar.specs.Grammar.{commands, extendedCommands}
 use Rattle.grammar.specs.Scanner.{openingOf, extensionOf}
 use Rattle.signals.specs.Waveforms.{waveOf}
 use Rattle.commands.specs.Said.{errorAfter, repliesOf}
-use Rattle.commands.specs.Plans.{carriedOut}
+use Rattle.commands.specs.Effects.{effectFrom}
 use Rattle.commands.specs.Events.{effectOf}
 use Rattle.bridge.specs.Calls.{answerOf}
 use Rattle.bridge.specs.Judging.{judgementOf}
 use Rattle.bridge.specs.Edges.{Edges}
 
 pub edges : Edges
-unfolding overwrite levelOf byteBits bits number register fromHeld kept movedUp commands extendedCommands openingOf extensionOf waveOf errorAfter repliesOf carriedOut effectOf answerOf judgementOf
+unfolding overwrite levelOf byteBits bits number register fromHeld kept movedUp commands extendedCommands openingOf extensionOf waveOf errorAfter repliesOf effectFrom effectOf answerOf judgementOf
 edges = record { P1 = refl; P2 = refl; P3 = refl; P4 = refl; P5 = refl; P6 = refl; P7 = refl; P8 = refl; P9 = refl; P9-without-last = refl; P10 = refl; P11 = refl; P12 = refl }

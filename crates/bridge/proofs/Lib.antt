@@ -2,7 +2,7 @@
 pub mod View
 pub mod Flags
 pub mod Openings
-pub mod Plans
+pub mod Decisions
 pub mod Between
 pub mod Inside
 pub mod Agrees

@@ -9,7 +9,7 @@ use Rattle.wire.specs.Buffer.{overwrite, fitsIn}
 use Rattle.registers.specs.Ranges.{stateFits}
 use Rattle.registers.specs.declared.State.{State}
 use Rattle.registers.specs.declared.Event.{Event}
-use Rattle.commands.specs.Plans.{Effect, sentBy}
+use Rattle.commands.specs.Effects.{Effect, sentBy}
 use Rattle.commands.specs.Events.{effectOf}
 use Rattle.refusals.specs.declared.Refusal.{Refusal}
 use Rattle.refusals.specs.declared.Refusal.the-variants.{Ranges, Samples, Actions, Replies}

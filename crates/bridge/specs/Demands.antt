@@ -15,7 +15,7 @@ use Rattle.registers.specs.declared.Event.{Event}
 use Rattle.registers.specs.declared.Event.the-variants as e
 use Rattle.registers.specs.declared.Wait.the-variants as v
 use Rattle.commands.specs.Said.{codesOf, isRejected}
-use Rattle.commands.specs.Plans.{sentBy}
+use Rattle.commands.specs.Effects.{sentBy}
 use Rattle.grammar.specs.Calls.{Machine, Call}
 use Rattle.grammar.specs.Calls as grammar
 use Rattle.grammar.specs.Following.{Leads}

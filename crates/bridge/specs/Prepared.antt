@@ -7,7 +7,7 @@ use Rattle.packet.specs.Packet.{width}
 use Rattle.registers.specs.declared.State.{State}
 use Rattle.registers.specs.declared.Event.{Event}
 use Rattle.signals.specs.Waveforms.{waveOf}
-use Rattle.commands.specs.Plans.{sentBy}
+use Rattle.commands.specs.Effects.{sentBy}
 use Rattle.commands.specs.Events.{effectOf}
 use Rattle.effects.specs.Replies.{replyBytes}
 pub use Rattle.bridge.specs.declared.preparing.Ready.{Ready}

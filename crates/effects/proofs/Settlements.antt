@@ -6,7 +6,7 @@ use mathlib.Core.List.{List, _∷_, map}
 use Rattle.registers.specs.Registers.{reportsOn, withPage, withError}
 use Rattle.registers.specs.declared.State.{State}
 use Rattle.commands.specs.Said.{returned, sent, errorAfter, repliesOf}
-use Rattle.commands.specs.Plans.{settledOf}
+use Rattle.commands.specs.Effects.{withErrorOf}
 use Rattle.commands.proofs.Choices.{chosen}
 use Rattle.commands.proofs.Sent.{error-sent, replies-sent}
 use Rattle.effects.specs.Replies.{settlement, settlementOf}
@@ -15,7 +15,7 @@ module _ (s : State) (xs : List ℕ) where
   pub all-sent : settlement s xs ≡ settlementOf s (map sent xs)
   all-sent =
       ap (λ (e : ℕ). settlement (withPage s (withError (s .page) e)) xs) (sym (error-sent (s .page .error) xs))
-      ∙ ap (λ (r : List ℕ). settlement (settledOf s (map sent xs)) r) (sym (replies-sent (reportsOn (s .page .flags)) xs))
+      ∙ ap (λ (r : List ℕ). settlement (withErrorOf s (map sent xs)) r) (sym (replies-sent (reportsOn (s .page .flags)) xs))
 
   -- a code and then data, with reports on or off
   pub coded : (k : ℕ) (on : Bool) → reportsOn (s .page .flags) ≡ on → settlement (withPage s (withError (s .page) k)) (cond on (k ∷ xs) xs) ≡ settlementOf s (returned k ∷ map sent xs)

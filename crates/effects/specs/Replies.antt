@@ -5,7 +5,7 @@ use Rattle.packet.specs.Packet.{lowBytes}
 use Rattle.registers.specs.Registers.{reportsOn, bitsIn}
 use Rattle.registers.specs.declared.State.{State}
 use Rattle.commands.specs.Said.{Said, repliesOf}
-use Rattle.commands.specs.Plans.{settledOf}
+use Rattle.commands.specs.Effects.{withErrorOf}
 pub use Rattle.effects.specs.declared.Reply.{Reply}
 pub use Rattle.effects.specs.declared.Reply.the-variants as l
 
@@ -30,4 +30,4 @@ settlement s xs = record { state = s; replies = xs }
 
 -- what is said, in a state: "if REPORTS_EN is set after the command"
 abbrev pub settlementOf : State → List Said → Settlement
-settlementOf s xs = settlement (settledOf s xs) (repliesOf (reportsOn (s .page .flags)) xs)
+settlementOf s xs = settlement (withErrorOf s xs) (repliesOf (reportsOn (s .page .flags)) xs)

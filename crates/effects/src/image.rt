@@ -1,6 +1,6 @@
 // The image of the settings that is stored in the EPROM.
 ghost use mathlib.Core.Path.{_≡_};
-ghost use Rattle.commands.specs.Common.{imageTail, imageMark, imageOf};
+ghost use Rattle.commands.specs.Changes.{imageTail, imageMark, imageOf};
 use registers::Page;
 
 // A byte of the image's tail: FF without SPI.

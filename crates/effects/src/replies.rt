@@ -4,7 +4,7 @@ ghost use mathlib.Core.Bool.{cond};
 ghost use lib.Dec.{eqb};
 ghost use mathlib.Core.List.{[], _∷_, map};
 ghost use Rattle.commands.specs.Said.{returned, sent, returnedAndSent};
-ghost use Rattle.commands.specs.Plans.{saidOf};
+ghost use Rattle.commands.specs.Effects.{saidOf};
 ghost use Rattle.effects.specs.Replies.{replyBytes, settlement, settlementOf};
 use crate::Reply;
 use crate::Settled;

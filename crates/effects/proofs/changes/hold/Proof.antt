@@ -9,4 +9,4 @@ hold-spec =
     (tie.spec
     (λ c κs. search needs)
     (λ c κs. search needs)
-    (λ c. rw (← c .before .with-byte .ensures) (c .wait-for .ensures)))
+    (λ c. rw (← c .before .with-byte .ensures) (c .with-wait .ensures)))

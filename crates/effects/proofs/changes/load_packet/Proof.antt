@@ -8,8 +8,9 @@ load-packet-spec =
     tie.close
     (tie.spec
     (λ c κs. search needs)
-    (λ c. search needs)
+    (λ c κs. search needs)
+    (λ c κs. search needs)
     (λ c. search needs)
     (λ c κs. search needs)
     (λ c κs. search needs)
-    (λ c. rw (← c .before .before .before .before .before .before .with-byte .ensures, ← c .before .load-packet .ensures) (c .settle-page .ensures)))
+    (λ c. rw (← c .before .before .before .before .before .before .with-byte .ensures, ← c .before .before .before .before .bits-of .ensures, ← c .before .before .before .high-first .ensures, ← c .before .load-packet .ensures) (c .end-with-page .ensures)))

@@ -9,4 +9,5 @@ load-timings-spec =
     (tie.spec
     (λ c κs. search needs)
     (λ c κs. search needs)
-    (λ c. rw (← c .before .before .with-byte .ensures) (c .settle-page .ensures)))
+    (λ c κs. search needs)
+    (λ c. rw (← c .before .before .before .with-byte .ensures, ← c .before .timings-in .ensures) (c .end-with-page .ensures)))

@@ -9,4 +9,4 @@ store-spec =
     (tie.spec
     (λ c κs. search needs)
     (λ c κs. search needs)
-    (λ c. rw (← c .before .store-register .ensures) (c .settle-page .ensures)))
+    (λ c. rw (← c .before .store-register .ensures) (c .end-with-page .ensures)))
