@@ -25,7 +25,7 @@ use records::reading::record_from;
 use refusals::Refusal;
 
 // The run ends here with a refusal and its place. The caller shows room for its record.
-fn stop(why: Refusal, place: usize, out: &mut [u8]) -> Ran
+pub(crate) fn stop(why: Refusal, place: usize, out: &mut [u8]) -> Ran
     requires { ⌜ 10 ≤ length (now out) ⌝ }
     ensures { λ r. ⌜ Turned (stopped why place) (now (out .entry)) (now (out .exit)) r ⌝ }
 {
@@ -39,7 +39,7 @@ fn stop(why: Refusal, place: usize, out: &mut [u8]) -> Ran
 }
 
 // The run ends here with the last record. The caller shows room for it.
-fn last(c: Cursor, out: &mut [u8]) -> Ran
+pub(crate) fn last(c: Cursor, out: &mut [u8]) -> Ran
     requires { ⌜ 5 ≤ length (now out) ⌝ }
     ensures { λ r. ⌜ Turned (turn finished (lastOf (c .bridge .state .wait))) (now (out .entry)) (now (out .exit)) r ⌝ }
 {
@@ -55,7 +55,7 @@ fn last(c: Cursor, out: &mut [u8]) -> Ran
 }
 
 // A step that writes nothing.
-fn pass(cursor: Cursor) -> Ran
+pub(crate) fn pass(cursor: Cursor) -> Ran
     ensures { λ r. ⌜ r ≡ record { cursor = cursor; written = 0; steps = 1 } ⌝ }
 {
     Ran {

@@ -1,12 +1,12 @@
--- Decided, applied, sensed, received and settled.
+-- Decided, applied, sensed, received and responded to.
 use borrow.Author.Needs.{needs}
 use mathlib.Core.Path.{_∙_}
-use Rattle.bridge.proofs.Readies.{plan-small, planned-as, prepared, received-size, settled-size}
-use Rattle.bridge.proofs.preparing.prepare.Statement.{statement}
-use Rattle.bridge.proofs.preparing.prepare.Tie as tie
+use Rattle.bridge.proofs.Measures.{plan-small, planned-as, measured, received-size, responded-size}
+use Rattle.bridge.proofs.measuring.measure.Statement.{statement}
+use Rattle.bridge.proofs.measuring.measure.Tie as tie
 
-pub prepare-spec : {M : Type 1} → statement M
-prepare-spec =
+pub measure-spec : {M : Type 1} → statement M
+measure-spec =
     tie.close
     (tie.spec
     (λ c κs. search needs)
@@ -17,15 +17,16 @@ prepare-spec =
     (plan-small (s .args .s) (s .args .event) (s .args .samples .now) (s .args .sampled) (s .pre .0) (planned-as (s .args .s) (s .args .event) (s .args .samples .now) (s .args .sampled) (s .pre .0) (a .before .plan-event .result) (a .apply .ensures) (a .before .plan-event .ensures)), s .pre .1))
     (λ c κs. search needs)
     (λ c κs. search needs)
+    (λ c κs. search needs)
     (λ c κs.
-    let t = c .before in
+    let t = c .before .before in
     let a = t .before .before .before .before .before in
     let s = a .before .before .before in
-    rw (settled-size _ (t .settle .ensures) ∙ received-size (a .apply .result) _ (t .before .receive .ensures))
+    rw (responded-size _ (t .respond .ensures) ∙ received-size (a .apply .result) _ (t .before .receive .ensures))
     (plan-small (s .args .s) (s .args .event) (s .args .samples .now) (s .args .sampled) (s .pre .0) (planned-as (s .args .s) (s .args .event) (s .args .samples .now) (s .args .sampled) (s .pre .0) (a .before .plan-event .result) (a .apply .ensures) (a .before .plan-event .ensures))))
     (λ c.
-    let t = c .before .before in
+    let t = c .before .before .before in
     let x = t .before .before .before in
     let a = x .before .before in
     let s = a .before .before .before in
-    prepared (s .args .s) (s .args .event) (s .args .samples .now) (s .args .sampled) (s .pre .0) _ (planned-as (s .args .s) (s .args .event) (s .args .samples .now) (s .args .sampled) (s .pre .0) (a .before .plan-event .result) (a .apply .ensures) (a .before .plan-event .ensures)) (x .sense .result) (x .sense .ensures) (t .before .receive .result) (t .before .receive .ensures) (t .settle .result) (t .settle .ensures) (c .reply-size .result) (c .reply-size .ensures)))
+    measured (s .args .s) (s .args .event) (s .args .samples .now) (s .args .sampled) (s .pre .0) _ (planned-as (s .args .s) (s .args .event) (s .args .samples .now) (s .args .sampled) (s .pre .0) (a .before .plan-event .result) (a .apply .ensures) (a .before .plan-event .ensures)) (x .sense .result) (x .sense .ensures) (t .before .receive .result) (t .before .receive .ensures) (t .respond .result) (t .respond .ensures) (c .before .before .returned .result) (c .before .before .returned .ensures) (c .reply-size .result) (c .reply-size .ensures)))

@@ -1,4 +1,4 @@
--- What is ready after planning, sensing, receiving and settling is the event's effect. Assumes nothing.
+-- What is measured by planning, sensing, receiving and responding is the event's effect. Assumes nothing.
 use Prim.Native.Nat.{ℕ, _*_, _<_, _≤_}
 use mathlib.Core.Path.{_≡_, refl, sym, ap, _∙_, subst⁻¹}
 use mathlib.Core.List.{List}
@@ -12,6 +12,7 @@ use Rattle.registers.specs.declared.Event.{Event}
 use Rattle.signals.specs.Waveforms.{waveOf}
 use Rattle.signals.specs.Sensed.{senseOf}
 use Rattle.signals.specs.declared.Sensed.{Sensed}
+use Rattle.commands.specs.Said.{codesOf}
 use Rattle.commands.specs.Plans.{plan, saidOf, received, carriedOut}
 use Rattle.commands.specs.Changes.{changed, decided}
 use Rattle.commands.specs.declared.Decision.{Decision}
@@ -19,9 +20,11 @@ use Rattle.commands.specs.Events.{planOf, effectOf}
 use Rattle.commands.specs.Plans.{Plan}
 use Rattle.commands.proofs.KeptParts.{Kept}
 use Rattle.commands.proofs.Keeps.{plan-keeps}
-use Rattle.effects.specs.Replies.{replyBytes, Settlement, settlement, settlementOf}
-use Rattle.effects.specs.declared.Settled.{Settled}
-use Rattle.bridge.specs.Prepared.{Ready, Prepared}
+use Rattle.effects.specs.Replies.{replyBytes, Response, response, responseOf}
+use Rattle.effects.specs.Returning.{ReturnedBy}
+use Rattle.effects.specs.declared.Returned.{Returned}
+use Rattle.effects.specs.declared.Responded.{Responded}
+use Rattle.bridge.specs.Measuring.{Measured, MeasuredAs}
 
 module _ (s : State) (e : Event) (ss : List ℕ) (m : ℕ) (n : InRange s) where
   pub plan-small : {p : Plan} → p ≡ planOf s e → p .state .page .size < width
@@ -32,41 +35,43 @@ module _ (s : State) (e : Event) (ss : List ℕ) (m : ℕ) (n : InRange s) where
   pub planned-as : (d : Decision) {t : State} → t ≡ changed s (d .change) → decided s d ≡ planOf s e → plan t (d .wave) (d .answer) ≡ planOf s e
   planned-as d q r = ap (λ (t : State). plan t (d .wave) (d .answer)) q ∙ r
 
-  abbrev readyOf : Plan → Sensed → Settled → ℕ → Ready
-  readyOf p x t k = record { page = p .state .page; wave = p .wave; used = x .used; bytes = x .bytes; state = t .state; reply = t .reply; size = k }
+  abbrev measuredOf : Plan → Sensed → Responded → Returned → ℕ → Measured
+  measuredOf p x t y k = record { page = p .state .page; wave = p .wave; used = x .used; bytes = x .bytes; state = t .state; returned = y; reply = t .reply; size = k }
 
-  -- what a plan and what was sensed settle to
-  abbrev settles : Plan → Sensed → Settlement
-  settles p x = settlementOf (received (p .state) (x .packet)) (saidOf (received (p .state) (x .packet)) (x .byte) (p .answer))
+  -- the response to a plan and what was sensed
+  abbrev responds : Plan → Sensed → Response
+  responds p x = responseOf (received (p .state) (x .packet)) (saidOf (received (p .state) (x .packet)) (x .byte) (p .answer))
 
   abbrev After : Plan → Type 0
   After p = (x : Sensed) → x ≡ senseOf (waveOf (p .state .page) (p .wave) ss m)
       → (q : State) → q ≡ received (p .state) (x .packet)
-      → (t : Settled) → settlement (t .state) (replyBytes (t .state) (t .reply)) ≡ settlementOf q (saidOf q (x .byte) (p .answer))
-      → (k : ℕ) → k ≡ length (replyBytes (t .state) (t .reply)) → Prepared s e ss m (readyOf p x t k)
+      → (t : Responded) → response (t .state) (replyBytes (t .state) (t .reply)) ≡ responseOf q (saidOf q (x .byte) (p .answer))
+      → (y : Returned) → ReturnedBy (p .answer) (x .byte) y
+      → (k : ℕ) → k ≡ length (replyBytes (t .state) (t .reply)) → MeasuredAs s e ss m (measuredOf p x t y k)
 
   planned : After (planOf s e)
   unfolding effectOf carriedOut
-  planned x ex q eq t et k ek =
+  planned x ex q eq t et y ey k ek =
       let p = planOf s e in
-      let g : settlement (t .state) (replyBytes (t .state) (t .reply)) ≡ settles p (senseOf (waveOf (p .state .page) (p .wave) ss m)) =
-      et ∙ ap (λ (r : State). settlementOf r (saidOf r (x .byte) (p .answer))) eq ∙ ap (settles p) ex in
+      let g : response (t .state) (replyBytes (t .state) (t .reply)) ≡ responds p (senseOf (waveOf (p .state .page) (p .wave) ss m)) =
+      et ∙ ap (λ (r : State). responseOf r (saidOf r (x .byte) (p .answer))) eq ∙ ap (responds p) ex in
       record {
-        used = ap (λ (y : Sensed). y .used) ex;
-        bytes = ap (λ (y : Sensed). y .bytes) ex;
-        state = ap (λ (y : Settlement). y .state) g;
-        replies = ap (λ (y : Settlement). y .replies) g;
-        size = ek ∙ ap (λ (y : Settlement). length (y .replies)) g;
+        used = ap (λ (z : Sensed). z .used) ex;
+        bytes = ap (λ (z : Sensed). z .bytes) ex;
+        state = ap (λ (z : Response). z .state) g;
+        codes = ey (received (p .state) (x .packet)) ∙ ap (λ (z : Sensed). codesOf (saidOf (received (p .state) (z .packet)) (z .byte) (p .answer))) ex;
+        replies = ap (λ (z : Response). z .replies) g;
+        size = ek ∙ ap (λ (z : Response). length (z .replies)) g;
         actions = refl;
         page-small = plan-small refl;
-        state-small = subst⁻¹ (λ (r : State). r .page .size < width) (ap (λ (y : Settlement). y .state) g) (plan-small refl);
+        state-small = subst⁻¹ (λ (r : State). r .page .size < width) (ap (λ (z : Response). z .state) g) (plan-small refl);
       }
 
-  pub prepared : (p : Plan) → p ≡ planOf s e → After p
-  prepared p q = subst⁻¹ After q planned
+  pub measured : (p : Plan) → p ≡ planOf s e → After p
+  measured p q = subst⁻¹ After q planned
 
--- what is ready to be written fits where its measure fits
-module _ {s : State} {e : Event} {ss : List ℕ} {m : ℕ} {r : Ready} (p : Prepared s e ss m r) (k : ℕ) where
+-- what is to be written fits where its measure fits
+module _ {s : State} {e : Event} {ss : List ℕ} {m : ℕ} {r : Measured} (p : MeasuredAs s e ss m r) (k : ℕ) where
   pub actions-fit : r .bytes ≤ k → length (bytesOf ((waveOf (r .page) (r .wave) ss m) .actions)) ≤ k
   actions-fit h =
       let q : length (bytesOf ((waveOf (r .page) (r .wave) ss m) .actions)) ≡ r .bytes = bytes-length ((waveOf (r .page) (r .wave) ss m) .actions) ∙ ap (λ (x : List Action). 4 * length x) (p .actions) ∙ sym (p .bytes) in
@@ -77,9 +82,9 @@ module _ {s : State} {e : Event} {ss : List ℕ} {m : ℕ} {r : Ready} (p : Prep
       let q : length (replyBytes (r .state) (r .reply)) ≡ r .size = ap length (p .replies) ∙ sym (p .size) in
       subst⁻¹ (λ (n : ℕ). n ≤ k) q h
 
--- the size register is in no part that receiving or settling changes
+-- the size register is in no part that receiving or responding changes
 pub received-size : (s : State) (r : List ℕ) {q : State} → q ≡ received s r → q .page .size ≡ s .page .size
 received-size s r e = ap (λ (q : State). q .page .size) e
 
-pub settled-size : (x : Settlement) {t : State} {xs : List ℕ} → settlement t xs ≡ x → t .page .size ≡ x .state .page .size
-settled-size x e = ap (λ (y : Settlement). y .state .page .size) e
+pub responded-size : (x : Response) {t : State} {xs : List ℕ} → response t xs ≡ x → t .page .size ≡ x .state .page .size
+responded-size x e = ap (λ (z : Response). z .state .page .size) e
