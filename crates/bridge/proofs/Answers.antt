@@ -10,9 +10,10 @@ use Rattle.wire.proofs.Actions.{bytes-length, actions-count}
 use Rattle.registers.specs.Ranges.{stateFits}
 use Rattle.registers.specs.declared.State.{State}
 use Rattle.registers.specs.declared.Event.{Event}
+use Rattle.commands.specs.Said.{codesOf}
 use Rattle.commands.specs.Effects.{sentBy}
 use Rattle.refusals.specs.declared.Refusal.the-variants.{Ranges, Samples, Actions, Replies}
-use Rattle.bridge.specs.Calls.{Bridge, Lent, effect, given, refusal, acceptance, answerOf}
+use Rattle.bridge.specs.Answering.{Bridge, Lent, effect, given, refusal, acceptance, answerOf}
 
 module _ (b : Bridge) (e : Event) (l : Lent) where
   pub refuse-ranges : stateFits (b .state) ≡ false → given (refusal b Ranges) (l .actions) (l .replies) ≡ answerOf b e l
@@ -39,8 +40,8 @@ module _ (b : Bridge) (e : Event) (l : Lent) where
       quarter : n / 4 ≡ length ((effect b e l) .actions)
       quarter = ap (λ (x : ℕ). x / 4) en′ ∙ actions-count ((effect b e l) .actions)
 
-      pub take-event : fitsIn (length (l .replies)) (l .replied) m ≡ true
-          → {s : State} {as′ rs : List ℕ} → s ≡ (effect b e l) .state → as′ ≡ overwrite (l .actions) (l .acted) (bytesOf ((effect b e l) .actions)) → rs ≡ overwrite (l .replies) (l .replied) (sentBy (effect b e l))
-          → given (acceptance s u m (n / 4)) as′ rs ≡ answerOf b e l
+      pub accept-event : fitsIn (length (l .replies)) (l .replied) m ≡ true
+          → {s : State} {ks as′ rs : List ℕ} → s ≡ (effect b e l) .state → ks ≡ codesOf ((effect b e l) .said) → as′ ≡ overwrite (l .actions) (l .acted) (bytesOf ((effect b e l) .actions)) → rs ≡ overwrite (l .replies) (l .replied) (sentBy (effect b e l))
+          → given (acceptance s ks u m (n / 4)) as′ rs ≡ answerOf b e l
       unfolding answerOf
-      take-event j es ea er = rw (h, rw eu at g, rw en′ at k, rw em at j, es, eu, em, quarter, ea, er)
+      accept-event j es ek ea er = rw (h, rw eu at g, rw en′ at k, rw em at j, es, ek, eu, em, quarter, ea, er)

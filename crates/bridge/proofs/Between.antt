@@ -18,7 +18,7 @@ use Rattle.registers.specs.declared.Page.{Page}
 use Rattle.registers.specs.declared.Shared.{Shared}
 use Rattle.registers.specs.declared.State.{State}
 use Rattle.registers.specs.declared.Wait.the-variants as v
-use Rattle.commands.specs.Commands.{Command}
+use Rattle.commands.specs.declared.Command.{Command}
 use Rattle.commands.specs.Bits.{withBit}
 use Rattle.commands.specs.Changes.{keptFlags}
 use Rattle.commands.specs.Legality.{spiNeedsConfiguration}

@@ -20,9 +20,13 @@ use Rattle.registers.specs.Registers.{withReceived}
 use Rattle.registers.specs.declared.State.{State}
 use Rattle.signals.specs.Waveforms.{waveOf}
 use Rattle.commands.specs.Said.{codesOf}
-use Rattle.commands.specs.Commands.{Command}
-use Rattle.commands.specs.Decisions.{Decision, ReturnsAndSends, returns, sends}
-use Rattle.commands.specs.Legality.{Legality, Legal, Rejected, legalityOf, readsConfiguration, rejects}
+use Rattle.commands.specs.declared.Command.{Command}
+use Rattle.commands.specs.Decisions.{returns, sends}
+use Rattle.commands.specs.declared.Decision.{Decision}
+use Rattle.commands.specs.declared.Answer.the-variants.{ReturnsAndSends}
+use Rattle.commands.specs.Legality.{legalityOf, readsConfiguration, rejects}
+use Rattle.commands.specs.declared.Legality.{Legality}
+use Rattle.commands.specs.declared.Legality.the-variants.{Legal, Rejected}
 use Rattle.commands.specs.Changes.{changed}
 use Rattle.commands.specs.Effects.{saidOf, effectFrom, carriedOut}
 use Rattle.commands.specs.Events.{clauseOf, commandDecided, commandDecision}

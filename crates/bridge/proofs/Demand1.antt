@@ -5,9 +5,9 @@ use mathlib.Core.Logic.{_↔_}
 use Rattle.registers.specs.declared.Event.{Event}
 use Rattle.refusals.specs.declared.Refusal.{Refusal}
 use Rattle.refusals.specs.declared.Refusal.the-variants.{Ranges}
-use Rattle.bridge.specs.Calls.{Bridge, Outcome, Taken, Refused, Lent, Given, refused, answerOf}
+use Rattle.bridge.specs.Answering.{Bridge, Outcome, Taken, Refused, Lent, Given, refused, answerOf}
 use Rattle.bridge.specs.Demands.{Applies, Lowest, Demand1, isRefused}
-use Rattle.bridge.proofs.Ways.{Went, refused-for, was-taken, lowest-one, went}
+use Rattle.bridge.proofs.Ways.{Went, refused-for, was-accepted, lowest-one, went}
 
 -- why, if it was refused
 reason : Outcome → Refusal
@@ -27,15 +27,15 @@ not-taken e = absurd (false≢true (sym (ap isRefused e)))
 module _ (b : Bridge) (e : Event) (l : Lent) where
   exactly : (g : Given) → Went b e l g → (r : Refusal) → (g .answer .outcome ≡ Refused r) ↔ Lowest b e l r
   exactly g (refused-for q w) r = (λ z. subst (Lowest b e l) (same-reason z) w, λ x. ap Refused (lowest-one b e l q r w x))
-  exactly g (was-taken n) r = (not-refused, λ x. absurd (n r (x .0)))
+  exactly g (was-accepted n) r = (not-refused, λ x. absurd (n r (x .0)))
 
   otherwise : (g : Given) → Went b e l g → (g .answer .outcome ≡ Taken) ↔ ((r : Refusal) → ¬ Applies b e l r)
   otherwise g (refused-for q w) = (not-taken, λ n. absurd (n q (w .0)))
-  otherwise g (was-taken n) = (λ z. n, λ z. refl)
+  otherwise g (was-accepted n) = (λ z. n, λ z. refl)
 
   left-alone : (g : Given) → Went b e l g → (r : Refusal) → g .answer .outcome ≡ Refused r → g ≡ refused b l r
   left-alone g (refused-for q w) r z = ap (refused b l) (same-reason z)
-  left-alone g (was-taken n) r z = not-refused z
+  left-alone g (was-accepted n) r z = not-refused z
 
   pub demand-1 : Demand1 b e l
   demand-1 = record {

@@ -4,6 +4,7 @@ use mathlib.Core.Path.{_≡_, refl, sym, ap, subst, _∙_}
 use mathlib.Core.Bool.{Bool, true, false, false≢true}
 use mathlib.Core.List.{List}
 use lib.ListN.{length}
+use Rattle.codes.specs.Codes.{anyRejecting}
 use Rattle.wire.specs.Action.{Action, bytesOf}
 use Rattle.wire.specs.Buffer.{overwrite}
 use Rattle.wire.specs.Sample.{SameFrom}
@@ -12,23 +13,23 @@ use Rattle.wire.proofs.Buffers.{overwrite-right, overwrite-none}
 use Rattle.registers.specs.Ranges.{stateFits, InRange}
 use Rattle.registers.specs.declared.Event.{Event}
 use Rattle.registers.proofs.InRange.{range-test}
-use Rattle.commands.specs.Said.{isRejected}
+use Rattle.commands.specs.Said.{codesOf}
 use Rattle.commands.specs.Effects.{Effect, sentBy}
 use Rattle.commands.proofs.Rejects.{event-rejects}
 use Rattle.commands.proofs.Samples.{event-takes, event-same}
 use Rattle.refusals.specs.declared.Refusal.the-variants.{Ranges, Actions, Replies}
-use Rattle.bridge.specs.Calls.{Bridge, Taken, Lent, Given, effect, taken, answerOf}
+use Rattle.bridge.specs.Answering.{Bridge, Taken, Lent, Given, effect, accepted, answerOf}
 use Rattle.bridge.specs.Demands.{filled, OnlyErrorChanged, Demand2, SameSamples}
-use Rattle.bridge.proofs.Ways.{room, Went, refused-for, was-taken, went}
+use Rattle.bridge.proofs.Ways.{room, Went, refused-for, was-accepted, went}
 use Rattle.bridge.proofs.Demand1.{not-taken, demand-1}
 
 module _ (b : Bridge) (e : Event) (l : Lent) where
-  gives : (g : Given) → Went b e l g → g .answer .outcome ≡ Taken → g ≡ taken (effect b e l) l
+  gives : (g : Given) → Went b e l g → g .answer .outcome ≡ Taken → g ≡ accepted (effect b e l) l
   gives g (refused-for r w) z = not-taken z
-  gives g (was-taken n) z = refl
+  gives g (was-accepted n) z = refl
 
   module _ (z : (answerOf b e l) .answer .outcome ≡ Taken) where
-    is : answerOf b e l ≡ taken (effect b e l) l
+    is : answerOf b e l ≡ accepted (effect b e l) l
     is = gives (answerOf b e l) (went b e l) z
 
     fill : (bytes : List ℕ) (mark : ℕ) (xs : List ℕ) → mark + length xs ≤ length bytes → overwrite bytes mark xs ≡ filled bytes mark xs
@@ -50,12 +51,15 @@ module _ (b : Bridge) (e : Event) (l : Lent) where
     counted : (answerOf b e l) .answer .samples ≡ (effect b e l) .used
     counted = ap (λ (g : Given). g .answer .samples) is
 
-    only-error : isRejected ((effect b e l) .said) ≡ true → OnlyErrorChanged b e l
+    returned : (answerOf b e l) .answer .codes ≡ codesOf ((effect b e l) .said)
+    returned = ap (λ (g : Given). g .answer .codes) is
+
+    only-error : anyRejecting ((answerOf b e l) .answer .codes) ≡ true → OnlyErrorChanged b e l
     only-error h =
-        let x = event-rejects (b .state) e (l .samples) (l .sampled) h in
+        let x = event-rejects (b .state) e (l .samples) (l .sampled) (sym (ap anyRejecting returned) ∙ h) in
         record {
           code = x .code;
-          returned = x .returned;
+          returned = returned ∙ x .returned;
           rejects = x .rejects;
           state = ap (λ (g : Given). g .answer .bridge .state) is ∙ x .state;
           no-action = ap (λ (g : Given). g .answer .actions) is ∙ ap length (x .actions);
@@ -72,6 +76,7 @@ module _ (b : Bridge) (e : Event) (l : Lent) where
     replies-counted = λ z. ap (λ (g : Given). g .answer .replies) (is z);
     samples-counted = counted;
     samples-taken = λ y z. counted z ∙ event-takes (b .state) e (l .samples) (l .sampled) (in-range z) y;
+    codes-returned = returned;
     rejected = only-error;
   }
 
@@ -82,7 +87,7 @@ same-samples b e l k = record {
   effects = same;
   answers = λ y z h.
       ap (λ (g : Given). g .answer) (is b e l y)
-      ∙ ap (λ (x : Effect). (taken x l) .answer) (same (subst (λ (n : ℕ). SameFrom n (l .samples) (l .sampled) (k .samples) (k .sampled)) (counted b e l y) h))
+      ∙ ap (λ (x : Effect). (accepted x l) .answer) (same (subst (λ (n : ℕ). SameFrom n (l .samples) (l .sampled) (k .samples) (k .sampled)) (counted b e l y) h))
       ∙ sym (ap (λ (g : Given). g .answer) (is b e k z));
 }
   where

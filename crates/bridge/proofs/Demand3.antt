@@ -4,12 +4,10 @@ use mathlib.Core.Path.{_≡_, refl, sym, ap, subst}
 use mathlib.Core.Bool.{true, false, false≢true}
 use native.Mathlib.Omega.{arith}
 use Rattle.registers.specs.Ranges.{InRange}
-use Rattle.registers.specs.declared.State.{State}
 use Rattle.registers.specs.declared.Wait.{Wait}
 use Rattle.registers.specs.declared.Wait.the-variants as v
 use Rattle.registers.specs.declared.Event.{Event}
 use Rattle.registers.specs.declared.Event.the-variants as e
-use Rattle.commands.specs.Said.{codesOf}
 use Rattle.commands.proofs.Keeps.{event-keeps}
 use Rattle.grammar.specs.Scanner.{scan}
 use Rattle.grammar.specs.declared.Place.the-variants.{Between}
@@ -17,11 +15,11 @@ use Rattle.grammar.specs.declared.Scanner.{Scanner}
 use Rattle.grammar.proofs.Demand3 as grammar
 use Rattle.grammar.proofs.Leads.{leads}
 use Rattle.grammar.proofs.Follows.{Agree, Follows}
-use Rattle.bridge.specs.Calls.{Bridge, Lent, Given, effect, answerOf}
+use Rattle.bridge.specs.Answering.{Bridge, Lent, Given, effect, accepted, answerOf}
 use Rattle.bridge.specs.Demands.{isRefused, machine, Demand3, ContextFollowed}
 use Rattle.bridge.proofs.View.{placeOf, viewOf}
 use Rattle.bridge.proofs.Agrees.{byte-agrees}
-use Rattle.bridge.proofs.Ways.{Went, refused-for, was-taken, went}
+use Rattle.bridge.proofs.Ways.{Went, refused-for, was-accepted, went}
 
 abbrev view : Bridge → Scanner
 view b = viewOf (b .state)
@@ -36,15 +34,15 @@ nothing-between (v.Timings m) q = let z : _≡_ {A = ℕ} 0 1 = cc in absurd (om
 -- refused, a call returns the bridge that it was given; taken, the event's
 kept : (b : Bridge) (a : Event) (l : Lent) (g : Given) → Went b a l g → isRefused (g .answer .outcome) ≡ true → g .answer .bridge ≡ b
 kept b a l g (refused-for r w) h = refl
-kept b a l g (was-taken n) h = absurd (false≢true h)
+kept b a l g (was-accepted n) h = absurd (false≢true h)
 
-gone : (b : Bridge) (a : Event) (l : Lent) (g : Given) → Went b a l g → isRefused (g .answer .outcome) ≡ false → g .answer .bridge .state ≡ (effect b a l) .state
+gone : (b : Bridge) (a : Event) (l : Lent) (g : Given) → Went b a l g → isRefused (g .answer .outcome) ≡ false → g ≡ accepted (effect b a l) l
 gone b a l g (refused-for r w) h = absurd (false≢true (sym h))
-gone b a l g (was-taken n) h = refl
+gone b a l g (was-accepted n) h = refl
 
 good : (b : Bridge) (a : Event) (l : Lent) (g : Given) → Went b a l g → InRange (b .state) → InRange (g .answer .bridge .state)
 good b a l g (refused-for r w) n = n
-good b a l g (was-taken m) n = event-keeps (b .state) a (l .samples) (l .sampled) n
+good b a l g (was-accepted m) n = event-keeps (b .state) a (l .samples) (l .sampled) n
 
 follows : Follows machine view
 follows = record {
@@ -53,7 +51,7 @@ follows = record {
   kept = λ b x l. kept b (e.Byte x) l (answerOf b (e.Byte x) l) (went b (e.Byte x) l);
   good = λ b x l h. good b (e.Byte x) l (answerOf b (e.Byte x) l) (went b (e.Byte x) l);
   step = λ b x l h n q.
-      subst (λ (s : State). Agree (scan (view b) x) (codesOf ((effect b (e.Byte x) l) .said)) (view b) (viewOf s))
+      subst (λ (g : Given). Agree (scan (view b) x) (g .answer .codes) (view b) (viewOf (g .answer .bridge .state)))
       (sym (gone b (e.Byte x) l (answerOf b (e.Byte x) l) (went b (e.Byte x) l) q))
       (byte-agrees (b .state) x (l .samples) (l .sampled) h n);
 }

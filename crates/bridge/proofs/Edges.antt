@@ -10,7 +10,7 @@ use Rattle.signals.specs.Waveforms.{waveOf}
 use Rattle.commands.specs.Said.{errorAfter, repliesOf}
 use Rattle.commands.specs.Effects.{effectFrom}
 use Rattle.commands.specs.Events.{effectOf}
-use Rattle.bridge.specs.Calls.{answerOf}
+use Rattle.bridge.specs.Answering.{answerOf}
 use Rattle.bridge.specs.Judging.{judgementOf}
 use Rattle.bridge.specs.Edges.{Edges}
 

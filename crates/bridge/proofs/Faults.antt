@@ -4,10 +4,10 @@ use Rattle.registers.specs.declared.Fault.{Fault}
 use Rattle.registers.specs.declared.Event.the-variants as e
 use Rattle.commands.specs.Events.{effectOf}
 use Rattle.commands.specs.Effects.{effectFrom}
-use Rattle.bridge.specs.Calls.{Bridge, Lent, Given, answerOf}
+use Rattle.bridge.specs.Answering.{Bridge, Lent, Given, answerOf}
 use Rattle.bridge.specs.Views.{contextOf}
 use Rattle.bridge.specs.Faults.{FaultKeeps}
-use Rattle.bridge.proofs.Ways.{Went, refused-for, was-taken, went}
+use Rattle.bridge.proofs.Ways.{Went, refused-for, was-accepted, went}
 
 pub fault-keeps : (b : Bridge) (f : Fault) (l : Lent) → FaultKeeps b f l
 unfolding effectOf effectFrom
@@ -15,4 +15,4 @@ fault-keeps b f l = let k = go (answerOf b (e.Fault f) l) (went b (e.Fault f) l)
   where
     go : (g : Given) → Went b (e.Fault f) l g → (contextOf (g .answer .bridge .state) ≡ contextOf (b .state)) × (g .answer .bridge .state .wait ≡ b .state .wait)
     go g (refused-for r w) = (refl, refl)
-    go g (was-taken n) = (refl, refl)
+    go g (was-accepted n) = (refl, refl)

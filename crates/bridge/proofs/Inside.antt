@@ -15,8 +15,8 @@ use Rattle.registers.specs.declared.PortRegister.{PortRegister}
 use Rattle.registers.specs.declared.PortRegister.the-variants as r
 use Rattle.registers.specs.declared.Operand.{Operand}
 use Rattle.registers.specs.declared.Operand.the-variants as o
-use Rattle.commands.specs.Commands.{Command}
-use Rattle.commands.specs.Decisions.{Decision}
+use Rattle.commands.specs.declared.Command.{Command}
+use Rattle.commands.specs.declared.Decision.{Decision}
 use Rattle.commands.specs.Changes.{changed}
 use Rattle.commands.specs.Operands.{operandClause, loadedClause, packetClause, timingsClause}
 use Rattle.commands.specs.Events.{commandDecision}

@@ -13,7 +13,7 @@ use Rattle.grammar.specs.Verdict.{judgeOf, Says}
 use Rattle.grammar.specs.declared.Verdict.{Verdict}
 use Rattle.grammar.proofs.Verdicts.{judge-right}
 use Rattle.refusals.specs.declared.Refusal.the-variants.{Ranges, Waits}
-use Rattle.bridge.specs.Calls.{Bridge}
+use Rattle.bridge.specs.Answering.{Bridge}
 use Rattle.bridge.specs.Views.{contextOf}
 use Rattle.bridge.specs.Judging.{Judgement, Judged, Refused, isIdle, judgementOf, refusedWith, JudgeCall}
 

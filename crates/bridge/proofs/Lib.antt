@@ -10,7 +10,7 @@ pub mod Ways
 pub mod Demand1
 pub mod Demand2
 pub mod Demand3
-pub mod Readies
+pub mod Measures
 pub mod Answers
 pub mod Judges
 pub mod Faults

@@ -8,7 +8,8 @@ use Rattle.grammar.specs.declared.Interface.the-variants.{I2C, SPI, OneWire}
 use Rattle.grammar.specs.declared.ContextChange.{ContextChange}
 use Rattle.grammar.specs.declared.ContextChange.the-variants.{Keep, Clear, Select, Configure, Resize}
 use Rattle.grammar.proofs.Lookups.{values, byte-fact}
-use Rattle.commands.specs.Commands.{Command, commandOf}
+use Rattle.commands.specs.Commands.{commandOf}
+use Rattle.commands.specs.declared.Command.{Command}
 use Rattle.commands.specs.declared.Command.the-variants as k
 use Rattle.commands.specs.declared.CommonCommand.{CommonCommand}
 use Rattle.commands.specs.declared.CommonCommand.the-variants as m

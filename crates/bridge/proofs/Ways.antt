@@ -1,4 +1,4 @@
--- The ways that a call can go: refused for the lowest reason that applies, or taken. Assumes nothing.
+-- The ways that a call can go: refused for the lowest reason that applies, or accepted. Assumes nothing.
 use Prim.Native.Nat.{ℕ, _+_, _≤_, _<_}
 use mathlib.Core.Path.{_≡_, refl, sym, _∙_}
 use mathlib.Core.Bool.{Bool, true, false, false≢true}
@@ -18,7 +18,7 @@ use Rattle.refusals.specs.Refusals.{numberOf}
 use Rattle.refusals.specs.declared.Refusal.{Refusal}
 use Rattle.refusals.specs.declared.Refusal.the-variants.{Ranges, Samples, Actions, Replies, Header, Length, Passes, Kind, FaultBody, Size, Factory, Waits}
 use Rattle.refusals.proofs.Numbers.{same-number, by-number}
-use Rattle.bridge.specs.Calls.{Bridge, Lent, Given, effect, refused, taken, unless, answerOf}
+use Rattle.bridge.specs.Answering.{Bridge, Lent, Given, effect, refused, accepted, unless, answerOf}
 use Rattle.bridge.specs.Demands.{TooFew, Applies, Lowest}
 
 -- ROOM
@@ -49,7 +49,7 @@ enough bytes mark need e (inr h) = omega (arith, leb-true (mark + need) (length 
 
 pub data Went (b : Bridge) (e : Event) (l : Lent) : Given → Type 0 where
   refused-for : (r : Refusal) → Lowest b e l r → Went b e l (refused b l r)
-  was-taken : ((r : Refusal) → ¬ Applies b e l r) → Went b e l (taken (effect b e l) l)
+  was-accepted : ((r : Refusal) → ¬ Applies b e l r) → Went b e l (accepted (effect b e l) l)
 
 module _ (b : Bridge) (e : Event) (l : Lent) where
   pub lowest-one : (r q : Refusal) → Lowest b e l r → Lowest b e l q → r ≡ q
@@ -115,21 +115,21 @@ module _ (b : Bridge) (e : Event) (l : Lent) where
       sends : ℕ
       sends = length (sentBy (effect b e l))
 
-      in-replies : (t : Bool) → fitsIn (length (l .replies)) (l .replied) sends ≡ t → Clear 4 → Went b e l (unless t (refused b l Replies) (taken (effect b e l) l))
-      in-replies true h c = was-taken (clear-all c (enough (l .replies) (l .replied) sends h))
+      in-replies : (t : Bool) → fitsIn (length (l .replies)) (l .replied) sends ≡ t → Clear 4 → Went b e l (unless t (refused b l Replies) (accepted (effect b e l) l))
+      in-replies true h c = was-accepted (clear-all c (enough (l .replies) (l .replied) sends h))
       in-replies false h c = refused-for Replies (too-few (l .replies) (l .replied) sends h, c)
 
       in-actions : (t : Bool) → fitsIn (length (l .actions)) (l .acted) acts ≡ t → Clear 3
-          → Went b e l (unless t (refused b l Actions) (unless (fitsIn (length (l .replies)) (l .replied) sends) (refused b l Replies) (taken (effect b e l) l)))
+          → Went b e l (unless t (refused b l Actions) (unless (fitsIn (length (l .replies)) (l .replied) sends) (refused b l Replies) (accepted (effect b e l) l)))
       in-actions true h c = in-replies (fitsIn (length (l .replies)) (l .replied) sends) refl (clear-replies c (enough (l .actions) (l .acted) acts h))
       in-actions false h c = refused-for Actions (too-few (l .actions) (l .acted) acts h, c)
 
       in-samples : (t : Bool) → fitsIn (length (l .samples)) (l .sampled) used ≡ t → Clear 2
-          → Went b e l (unless t (refused b l Samples) (unless (fitsIn (length (l .actions)) (l .acted) acts) (refused b l Actions) (unless (fitsIn (length (l .replies)) (l .replied) sends) (refused b l Replies) (taken (effect b e l) l))))
+          → Went b e l (unless t (refused b l Samples) (unless (fitsIn (length (l .actions)) (l .acted) acts) (refused b l Actions) (unless (fitsIn (length (l .replies)) (l .replied) sends) (refused b l Replies) (accepted (effect b e l) l))))
       in-samples true h c = in-actions (fitsIn (length (l .actions)) (l .acted) acts) refl (clear-actions c (enough (l .samples) (l .sampled) used h))
       in-samples false h c = refused-for Samples (too-few (l .samples) (l .sampled) used h, c)
 
       ranges : (t : Bool) → stateFits (b .state) ≡ t
-          → Went b e l (unless t (refused b l Ranges) (unless (fitsIn (length (l .samples)) (l .sampled) used) (refused b l Samples) (unless (fitsIn (length (l .actions)) (l .acted) acts) (refused b l Actions) (unless (fitsIn (length (l .replies)) (l .replied) sends) (refused b l Replies) (taken (effect b e l) l)))))
+          → Went b e l (unless t (refused b l Ranges) (unless (fitsIn (length (l .samples)) (l .sampled) used) (refused b l Samples) (unless (fitsIn (length (l .actions)) (l .acted) acts) (refused b l Actions) (unless (fitsIn (length (l .replies)) (l .replied) sends) (refused b l Replies) (accepted (effect b e l) l)))))
       ranges true h = in-samples (fitsIn (length (l .samples)) (l .sampled) used) refl (clear-samples (range-test (b .state) .0 h))
       ranges false h = refused-for Ranges ((λ r. false≢true (sym h ∙ range-test (b .state) .1 r)), clear-ranges)

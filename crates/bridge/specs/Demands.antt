@@ -1,4 +1,4 @@
--- The three demands on the bridge's call, over the definition that the contract of `step` cites (Calls.antt). Open this file first.
+-- The three demands on the bridge's call, over the definition that the contract of `step` cites (Answering.antt). Open this file first.
 -- Proofs: `demand-1` in proofs/Demand1.antt, `demand-2` in proofs/Demand2.antt, `demand-3` in proofs/Demand3.antt.
 use Prim.Native.Nat.{ℕ, _+_, _-_, _*_, _<_}
 use mathlib.Core.Path.{_≡_}
@@ -7,14 +7,14 @@ use mathlib.Core.List.{List, [], _∷_, _++_}
 use mathlib.Core.Logic.{_↔_, _⊎_}
 use lib.ListN.{length, take, drop}
 use Rattle.wire.specs.Action.{bytesOf}
-use Rattle.codes.specs.Codes.{rejecting}
+use Rattle.codes.specs.Codes.{rejecting, anyRejecting}
 use Rattle.wire.specs.Sample.{samplings, SameFrom}
 use Rattle.registers.specs.Registers.{withPage, withError}
 use Rattle.registers.specs.Ranges.{InRange, Sized}
 use Rattle.registers.specs.declared.Event.{Event}
 use Rattle.registers.specs.declared.Event.the-variants as e
 use Rattle.registers.specs.declared.Wait.the-variants as v
-use Rattle.commands.specs.Said.{codesOf, isRejected}
+use Rattle.commands.specs.Said.{codesOf}
 use Rattle.commands.specs.Effects.{sentBy}
 use Rattle.grammar.specs.Calls.{Machine, Call}
 use Rattle.grammar.specs.Calls as grammar
@@ -22,7 +22,7 @@ use Rattle.grammar.specs.Following.{Leads}
 use Rattle.refusals.specs.Refusals.{numberOf}
 use Rattle.refusals.specs.declared.Refusal.{Refusal}
 use Rattle.refusals.specs.declared.Refusal.the-variants.{Ranges, Samples, Actions, Replies, Header, Length, Passes, Kind, FaultBody, Size, Factory, Waits}
-use Rattle.bridge.specs.Calls.{Bridge, Outcome, Taken, Refused, Lent, effect, refused, taken, answerOf}
+use Rattle.bridge.specs.Answering.{Bridge, Outcome, Taken, Refused, Lent, effect, refused, accepted, answerOf}
 use Rattle.bridge.specs.Views.{contextOf}
 
 abbrev pub outcome : Bridge → Event → Lent → Outcome
@@ -75,7 +75,7 @@ filled bytes mark xs = take mark bytes ++ xs ++ drop (mark + length xs) bytes
 -- returned, 80 or 40.
 pub record OnlyErrorChanged (b : Bridge) (e : Event) (l : Lent) : Type 0 where
   pub code : ℕ
-  pub returned : codesOf ((effect b e l) .said) ≡ code ∷ []
+  pub returned : (answerOf b e l) .answer .codes ≡ code ∷ []
   pub rejects : rejecting code ≡ true
   pub state : (answerOf b e l) .answer .bridge .state ≡ withPage (b .state) (withError (b .state .page) code)
   pub no-action : (answerOf b e l) .answer .actions ≡ 0
@@ -83,7 +83,7 @@ pub record OnlyErrorChanged (b : Bridge) (e : Event) (l : Lent) : Type 0 where
   pub pins : (answerOf b e l) .actions ≡ l .actions
 
 pub record Demand2 (b : Bridge) (e : Event) (l : Lent) : Type 0 where
-  pub gives : outcome b e l ≡ Taken → answerOf b e l ≡ taken (effect b e l) l
+  pub gives : outcome b e l ≡ Taken → answerOf b e l ≡ accepted (effect b e l) l
   pub actions-written : outcome b e l ≡ Taken → (answerOf b e l) .actions ≡ filled (l .actions) (l .acted) (bytesOf ((effect b e l) .actions))
   pub replies-written : outcome b e l ≡ Taken → (answerOf b e l) .replies ≡ filled (l .replies) (l .replied) (sentBy (effect b e l))
   -- the counts are of what was written and used: four bytes an action, a byte a reply byte
@@ -92,7 +92,9 @@ pub record Demand2 (b : Bridge) (e : Event) (l : Lent) : Type 0 where
   pub samples-counted : outcome b e l ≡ Taken → (answerOf b e l) .answer .samples ≡ (effect b e l) .used
   -- and the samples used are those taken, by the actions with verb 3 or 7 (`Sized`: an array of the state has its size)
   pub samples-taken : Sized (b .state) → outcome b e l ≡ Taken → (answerOf b e l) .answer .samples ≡ samplings ((effect b e l) .actions)
-  pub rejected : outcome b e l ≡ Taken → isRejected ((effect b e l) .said) ≡ true → OnlyErrorChanged b e l
+  -- the codes are those returned
+  pub codes-returned : outcome b e l ≡ Taken → (answerOf b e l) .answer .codes ≡ codesOf ((effect b e l) .said)
+  pub rejected : outcome b e l ≡ Taken → anyRejecting ((answerOf b e l) .answer .codes) ≡ true → OnlyErrorChanged b e l
 
 -- THEOREM (proofs/Demand2.antt, `same-samples`): two calls whose samples agree, on the places that the first one uses and from the
 -- marks on, do the same; so no sample is used but those counted
@@ -115,7 +117,7 @@ machine = record {
   Idle = λ b. b .state .wait ≡ v.Nothing;
   context = λ b. contextOf (b .state);
   refuses = λ b x l. isRefused (outcome b (e.Byte x) l);
-  codes = λ b x l. codesOf ((effect b (e.Byte x) l) .said);
+  codes = λ b x l. (answerOf b (e.Byte x) l) .answer .codes;
   next = λ b x l. (answerOf b (e.Byte x) l) .answer .bridge;
 }
 

@@ -14,7 +14,7 @@ use Rattle.registers.specs.declared.Event.the-variants as e
 use Rattle.registers.specs.declared.Wait.the-variants as v
 use Rattle.one_wire_bus.specs.OneWire.{defaultTimings}
 use Rattle.grammar.specs.declared.Verdict.the-variants.{Whole, Open, Wrong}
-use Rattle.bridge.specs.Calls.{Bridge, Lent, lent, Given, answerOf}
+use Rattle.bridge.specs.Answering.{Bridge, Lent, lent, Given, answerOf}
 use Rattle.bridge.specs.Judging.{Judged, judgementOf}
 
 -- "Start is factory, 00 seven times and FF three, IOG count FF, version and serial 0"; "ERROR and the packet register start at 0,

@@ -3,7 +3,7 @@
 use mathlib.Core.Path.{_≡_}
 use Rattle.registers.specs.declared.Fault.{Fault}
 use Rattle.registers.specs.declared.Event.the-variants as e
-use Rattle.bridge.specs.Calls.{Bridge, Lent, answerOf}
+use Rattle.bridge.specs.Answering.{Bridge, Lent, answerOf}
 use Rattle.bridge.specs.Views.{contextOf}
 
 -- THEOREM (proofs/Faults.antt, `fault-keeps`): after a fault's call, refused or not, the context and the wait are what they were

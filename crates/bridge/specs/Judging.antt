@@ -11,7 +11,7 @@ use Rattle.grammar.specs.Verdict.{judgeOf, Says}
 use Rattle.grammar.specs.declared.Verdict.{Verdict}
 use Rattle.refusals.specs.Refusals.{numberOf}
 use Rattle.refusals.specs.declared.Refusal.the-variants.{Ranges, Waits}
-use Rattle.bridge.specs.Calls.{Bridge}
+use Rattle.bridge.specs.Answering.{Bridge}
 use Rattle.bridge.specs.Views.{contextOf}
 pub use Rattle.bridge.specs.declared.Judgement.{Judgement}
 pub use Rattle.bridge.specs.declared.Judgement.the-variants.{Judged, Refused}

@@ -1,7 +1,7 @@
-pub mod Calls
+pub mod Answering
 pub mod Views
 pub mod Judging
 pub mod Faults
 pub mod Demands
 pub mod Edges
-pub mod Prepared
+pub mod Measuring

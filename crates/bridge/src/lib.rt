@@ -2,12 +2,14 @@
 ghost use mathlib.Core.Path.{_≡_};
 ghost use Prim.Native.Nat.{_/_};
 ghost use Rattle.registers.specs.Ranges.{InRange};
+ghost use Rattle.effects.specs.Returning.{codesIn};
 ghost use Rattle.bridge.specs.Judging.{isIdle};
-ghost use Rattle.bridge.specs.Calls.{refusal, acceptance, given, lent, answerOf};
+ghost use Rattle.bridge.specs.Answering.{answered, refusal, acceptance, given, lent, answerOf};
 
 mod judging;
-pub mod preparing;
+pub mod measuring;
 
+use effects::Returned;
 use grammar::Verdict;
 use refusals::Refusal;
 use registers::Event;
@@ -25,10 +27,12 @@ pub enum Outcome {
     Refused(Refusal),
 }
 
-// What a call answers: the new bridge, the outcome, and how many samples were used and reply bytes and actions written.
+// What a call answers: the new bridge, the outcome, the codes that the event returned, and how many samples were used and reply bytes
+// and actions written.
 pub struct Stepped {
     pub bridge: Bridge,
     pub outcome: Outcome,
+    pub returned: Returned,
     pub samples: usize,
     pub replies: usize,
     pub actions: usize,
@@ -56,13 +60,14 @@ pub fn is_idle(w: Wait) -> bool
     }
 }
 
-// A refused call's answer: the bridge that it was given, and no counts.
+// A refused call's answer: the bridge that it was given, no codes and no counts.
 fn refused(b: Bridge, why: Refusal) -> Stepped
-    ensures { λ r. ⌜ r ≡ refusal b why ⌝ }
+    ensures { λ r. ⌜ answered r ≡ refusal b why ⌝ }
 {
     Stepped {
         bridge: b,
         outcome: Outcome::Refused(why),
+        returned: Returned::Nothing,
         samples: 0,
         replies: 0,
         actions: 0,
@@ -70,12 +75,13 @@ fn refused(b: Bridge, why: Refusal) -> Stepped
 }
 
 // A taken call's answer, with the actions counted from their bytes.
-fn accepted(s: State, samples: usize, replies: usize, bytes: usize) -> Stepped
-    ensures { λ r. ⌜ r ≡ acceptance s samples replies (bytes / 4) ⌝ }
+fn accepted(s: State, returned: Returned, samples: usize, replies: usize, bytes: usize) -> Stepped
+    ensures { λ r. ⌜ answered r ≡ acceptance s (codesIn returned) samples replies (bytes / 4) ⌝ }
 {
     Stepped {
         bridge: Bridge { state: s },
         outcome: Outcome::Taken,
+        returned,
         samples,
         replies,
         actions: bytes / wire::ACTION_BYTES,
@@ -94,7 +100,7 @@ impl Bridge {
         replies: &mut [u8],
         replied: usize,
     ) -> Stepped
-        ensures { λ r. ⌜ given r (now (actions .exit)) (now (replies .exit)) ≡ answerOf self event (lent (now (samples .entry)) sampled (now (actions .entry)) acted (now (replies .entry)) replied) ⌝ }
+        ensures { λ r. ⌜ given (answered r) (now (actions .exit)) (now (replies .exit)) ≡ answerOf self event (lent (now (samples .entry)) sampled (now (actions .entry)) acted (now (replies .entry)) replied) ⌝ }
     {
         let s = self.state;
         if !registers::in_range(s) {
@@ -115,13 +121,13 @@ impl Bridge {
         replied: usize,
     ) -> Stepped
         requires { ⌜ InRange (self .state) ⌝ }
-        ensures { λ r. ⌜ given r (now (actions .exit)) (now (replies .exit)) ≡ answerOf self event (lent (now (samples .entry)) sampled (now (actions .entry)) acted (now (replies .entry)) replied) ⌝ }
+        ensures { λ r. ⌜ given (answered r) (now (actions .exit)) (now (replies .exit)) ≡ answerOf self event (lent (now (samples .entry)) sampled (now (actions .entry)) acted (now (replies .entry)) replied) ⌝ }
     {
         let s = self.state;
         if samples.len() < sampled {
             return refused(self, Refusal::Samples); // past the end
         }
-        let r = preparing::prepare(s, event, samples, sampled);
+        let r = measuring::measure(s, event, samples, sampled);
         if !wire::fits(samples.len(), sampled, r.used) {
             return refused(self, Refusal::Samples);
         }
@@ -134,9 +140,10 @@ impl Bridge {
         let page = r.page;
         let wave = r.wave;
         let next = r.state;
+        let returned = r.returned;
         let reply = r.reply;
         signals::write(&mut actions[acted..], page, wave, samples, sampled);
         effects::sending::put_reply(&mut replies[replied..], next, reply);
-        accepted(next, r.used, r.size, r.bytes)
+        accepted(next, returned, r.used, r.size, r.bytes)
     }
 }

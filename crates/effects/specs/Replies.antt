@@ -1,4 +1,4 @@
--- For the contracts of `settle`, `reply_size` and `put_reply`, which go by a name for the reply bytes; 01 does not speak of it.
+-- For the contracts of `respond`, `reply_size` and `put_reply`, which go by a name for the reply bytes; 01 does not speak of it.
 use mathlib.Core.List.{List, [], _∷_}
 use Prim.Native.Nat.{ℕ}
 use Rattle.packet.specs.Packet.{lowBytes}
@@ -21,13 +21,13 @@ replyBytes s l.Low = lowBytes (bitsIn (s .page)) (s .page .packet)
 replyBytes s (l.OneThenLow a) = a ∷ lowBytes (bitsIn (s .page)) (s .page .packet)
 
 -- a state and the bytes sent
-pub record Settlement : Type 0 where
+pub record Response : Type 0 where
   pub state : State
   pub replies : List ℕ
 
-abbrev pub settlement : State → List ℕ → Settlement
-settlement s xs = record { state = s; replies = xs }
+abbrev pub response : State → List ℕ → Response
+response s xs = record { state = s; replies = xs }
 
 -- what is said, in a state: "if REPORTS_EN is set after the command"
-abbrev pub settlementOf : State → List Said → Settlement
-settlementOf s xs = settlement (withErrorOf s xs) (repliesOf (reportsOn (s .page .flags)) xs)
+abbrev pub responseOf : State → List Said → Response
+responseOf s xs = response (withErrorOf s xs) (repliesOf (reportsOn (s .page .flags)) xs)

@@ -2,6 +2,7 @@
 pub mod changes;
 mod image;
 pub mod replies;
+pub mod returning;
 pub mod sending;
 
 use registers::State;
@@ -19,8 +20,15 @@ pub enum Reply {
     OneThenLow(u8),
 }
 
+// The codes that an event returned, in their order.
+pub enum Returned {
+    Nothing,
+    One(u8),
+    Two(u8, u8),
+}
+
 // The state that an event leaves, and what it sends.
-pub struct Settled {
+pub struct Responded {
     pub state: State,
     pub reply: Reply,
 }

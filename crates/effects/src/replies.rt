@@ -5,89 +5,87 @@ ghost use lib.Dec.{eqb};
 ghost use mathlib.Core.List.{[], _∷_, map};
 ghost use Rattle.commands.specs.Said.{returned, sent, returnedAndSent};
 ghost use Rattle.commands.specs.Effects.{saidOf};
-ghost use Rattle.effects.specs.Replies.{replyBytes, settlement, settlementOf};
+ghost use Rattle.effects.specs.Replies.{replyBytes, response, responseOf};
 use crate::Reply;
-use crate::Settled;
+use crate::Responded;
+use crate::returning::checked;
 use commands::Answer;
 use registers::State;
 
 // Data sent: ERROR stays.
-fn send(s: State, reply: Reply) -> Settled
-    ensures { λ r. ⌜ settlement (r .state) (replyBytes (r .state) (r .reply)) ≡ settlementOf s (map sent (replyBytes s reply)) ⌝ }
+fn send(s: State, reply: Reply) -> Responded
+    ensures { λ r. ⌜ response (r .state) (replyBytes (r .state) (r .reply)) ≡ responseOf s (map sent (replyBytes s reply)) ⌝ }
 {
-    Settled { state: s, reply }
+    Responded { state: s, reply }
 }
 
 // A code returned: stored, and sent with reports on.
-fn store(mut s: State, code: u8) -> Settled
-    ensures { λ r. ⌜ settlement (r .state) (replyBytes (r .state) (r .reply)) ≡ settlementOf s (returned code ∷ []) ⌝ }
+fn store(mut s: State, code: u8) -> Responded
+    ensures { λ r. ⌜ response (r .state) (replyBytes (r .state) (r .reply)) ≡ responseOf s (returned code ∷ []) ⌝ }
 {
     s.page.error = code;
     if s.page.flags / 8 % 2 == 1 {
-        return Settled {
+        return Responded {
             state: s,
             reply: Reply::One(code),
         };
     }
-    Settled {
+    Responded {
         state: s,
         reply: Reply::Empty,
     }
 }
 
 // The codes of a load and of its exchange.
-fn store_twice(mut s: State) -> Settled
-    ensures { λ r. ⌜ settlement (r .state) (replyBytes (r .state) (r .reply)) ≡ settlementOf s (returned 0 ∷ returned 0 ∷ []) ⌝ }
+fn store_twice(mut s: State) -> Responded
+    ensures { λ r. ⌜ response (r .state) (replyBytes (r .state) (r .reply)) ≡ responseOf s (returned 0 ∷ returned 0 ∷ []) ⌝ }
 {
     s.page.error = codes::NO_ERROR;
     if s.page.flags / 8 % 2 == 1 {
-        return Settled {
+        return Responded {
             state: s,
             reply: Reply::Two(codes::NO_ERROR, codes::NO_ERROR),
         };
     }
-    Settled {
+    Responded {
         state: s,
         reply: Reply::Empty,
     }
 }
 
 // A code returned and sent whatever the reports.
-fn store_and_send(mut s: State, code: u8) -> Settled
-    ensures { λ r. ⌜ settlement (r .state) (replyBytes (r .state) (r .reply)) ≡ settlementOf s (returnedAndSent code ∷ []) ⌝ }
+fn store_and_send(mut s: State, code: u8) -> Responded
+    ensures { λ r. ⌜ response (r .state) (replyBytes (r .state) (r .reply)) ≡ responseOf s (returnedAndSent code ∷ []) ⌝ }
 {
     s.page.error = code;
-    Settled {
+    Responded {
         state: s,
         reply: Reply::One(code),
     }
 }
 
 // The code of an exchange, and then the low bytes of the packet register.
-fn store_then_low(mut s: State, x: u8) -> Settled
-    ensures { λ r. ⌜ settlement (r .state) (replyBytes (r .state) (r .reply)) ≡ settlementOf s (saidOf s x Answer.ReturnsThenLow) ⌝ }
+fn store_then_low(mut s: State, x: u8) -> Responded
+    ensures { λ r. ⌜ response (r .state) (replyBytes (r .state) (r .reply)) ≡ responseOf s (saidOf s x Answer.ReturnsThenLow) ⌝ }
 {
     s.page.error = codes::NO_ERROR;
     if s.page.flags / 8 % 2 == 1 {
-        return Settled {
+        return Responded {
             state: s,
             reply: Reply::OneThenLow(codes::NO_ERROR),
         };
     }
-    Settled {
+    Responded {
         state: s,
         reply: Reply::Low,
     }
 }
 
-// 00 for a low sample, else a code.
-fn check(s: State, x: u8, code: u8) -> Settled
-    ensures { λ r. ⌜ settlement (r .state) (replyBytes (r .state) (r .reply)) ≡ settlementOf s (saidOf s x (Answer.Checked code)) ⌝ }
+// What the sample is checked for: 00 for a low one, else a code.
+fn check(s: State, x: u8, code: u8) -> Responded
+    ensures { λ r. ⌜ response (r .state) (replyBytes (r .state) (r .reply)) ≡ responseOf s (saidOf s x (Answer.Checked code)) ⌝ }
 {
-    if x != 0 {
-        return store(s, code);
-    }
-    store(s, codes::NO_ERROR)
+    store(s, checked(x, code))
 }
 
 // 0F for a low sample, 8F for a high one.
@@ -98,8 +96,8 @@ fn level_byte(x: u8) -> u8
 }
 
 // What an answer leaves and sends, where the samples gave x.
-pub fn settle(s: State, answer: Answer, x: u8) -> Settled
-    ensures { λ r. ⌜ settlement (r .state) (replyBytes (r .state) (r .reply)) ≡ settlementOf s (saidOf s x answer) ⌝ }
+pub fn respond(s: State, answer: Answer, x: u8) -> Responded
+    ensures { λ r. ⌜ response (r .state) (replyBytes (r .state) (r .reply)) ≡ responseOf s (saidOf s x answer) ⌝ }
 {
     match answer {
         Answer::Silent => send(s, Reply::Empty),

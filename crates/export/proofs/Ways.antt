@@ -7,7 +7,7 @@ use borrow.Author.Tests.{eq-eqb, ne-eqb}
 use lib.ListN.{length}
 use Rattle.registers.specs.declared.State.{State}
 use Rattle.registers.specs.declared.Event.{Event}
-use Rattle.bridge.specs.Calls.{Lent, given, answerOf}
+use Rattle.bridge.specs.Answering.{Lent, given, answerOf}
 use Rattle.bridge.specs.declared.Bridge.{Bridge}
 use Rattle.bridge.specs.declared.Stepped.{Stepped}
 use Rattle.bridge.specs.Judging.{judgementOf}

@@ -12,7 +12,7 @@ use Rattle.registers.specs.declared.Fault.the-variants as k
 use Rattle.codes.specs.Tables.{Entry, _is_, lookup}
 use Rattle.grammar.specs.declared.Verdict.{Verdict}
 use Rattle.grammar.specs.declared.Verdict.the-variants as v
-use Rattle.bridge.specs.Calls.{Lent, Given, answerOf}
+use Rattle.bridge.specs.Answering.{Lent, Given, answerOf}
 use Rattle.bridge.specs.declared.Bridge.{Bridge}
 use Rattle.bridge.specs.declared.Outcome.{Outcome}
 use Rattle.bridge.specs.declared.Outcome.the-variants as o

@@ -8,7 +8,7 @@ use lib.Dec.{eqb}
 use lib.ListN.{length}
 use Rattle.wire.specs.Buffer.{overwrite}
 use Rattle.session.specs.declared.replay.Cursor.{Cursor}
-use Rattle.session.specs.Runs.{Turn, stepsOf, allSteps}
+use Rattle.session.specs.Runs.{Steps, stepsOf, allSteps}
 use Rattle.image.specs.Image.{imageOf, isState}
 use Rattle.refusals.specs.Refusals.{numberOf}
 use Rattle.refusals.specs.declared.Refusal.the-variants.{Ranges}
@@ -45,7 +45,7 @@ abbrev pub replayCall : ℕ → Behind → List ℕ → ℕ → ReplayCall
 replayCall n h x w = record { number = n; cursor = h; output = x; written = w }
 
 -- BRIDGE_REPLAY on a session from a cursor h, with an output that held o: "1 if the image is no state", else a run
-abbrev pub replayed : List ℕ → Turn → ReplayCall
+abbrev pub replayed : List ℕ → Steps → ReplayCall
 replayed o t = replayCall 0 (behindOf (t .next)) (overwrite o 0 (t .bytes)) (length (t .bytes))
 
 unfoldable pub replayGives : List ℕ → Behind → List ℕ → ReplayCall

@@ -1,6 +1,6 @@
 // What C links: include/bridge.h. A state goes by its image, and every answer but the number by a pointer.
 ghost use mathlib.Core.Path.{_≡_};
-ghost use Rattle.bridge.specs.Calls.{lent};
+ghost use Rattle.bridge.specs.Answering.{lent};
 ghost use Rattle.export.specs.Calls.{startCall, startGives, stepCall, stepGives, judgeCall, judgeGives, deviceOf, switchCall, switchGives};
 ghost use Rattle.export.specs.Replaying.{behind, replayCall, Replays};
 

@@ -9,7 +9,7 @@ use borrow.Author.Tests.{le-leb, lt-leb, lt-ltb, le-ltb, ltb-true, ltb-false}
 use lib.Dec.{ltb, leb}
 use lib.ListN.{length, drop, getD, length-append}
 use Rattle.registers.specs.declared.Event.{Event}
-use Rattle.bridge.specs.Calls.{Given}
+use Rattle.bridge.specs.Answering.{Given}
 use Rattle.bridge.specs.declared.Bridge.{Bridge}
 use Rattle.bridge.specs.declared.Outcome.{Outcome}
 use Rattle.bridge.specs.declared.Outcome.the-variants.{Taken, Refused}
@@ -22,9 +22,9 @@ use Rattle.records.specs.declared.contents.Content.{Content}
 use Rattle.records.specs.declared.contents.Content.the-variants as k
 use Rattle.records.proofs.Choices.{by-cond, by-bool}
 use Rattle.session.specs.History.{callOf, outputOf, refusalOf}
-use Rattle.session.specs.Runs.{Cursor, mostOutput, lentTo, Turn, finished, stopped, entered, after, answered, firstTurn, bodyTurn, recordTurn, stepOf, stay, thenTurn, stepsOf}
-use Rattle.session.specs.Said.{Progress, halt, onward, progressOf, Entering}
-use Rattle.session.proofs.Calls.{not-refused, call-few}
+use Rattle.session.specs.Runs.{Cursor, mostOutput, lentTo, Steps, finished, stopped, entered, pastEvent, eventStep, firstStep, bodyStep, recordStep, stepOf, stay, thenSteps, stepsOf}
+use Rattle.session.specs.Inner.{Progress, halt, onward, progressOf, Entering}
+use Rattle.session.proofs.CallTests.{not-refused, call-few}
 use Rattle.session.proofs.Parts.{part-none, part-first, no-fault, lent-rest}
 use Rattle.session.proofs.Progress.{progress-step, progress-short}
 
@@ -45,48 +45,48 @@ unfolding stepsOf
 steps-none s room c = refl
 
 pub steps-first : (n : ℕ) (s : List ℕ) (room : ℕ) (c : Cursor) → c .done ≡ false → mostOutput ≤ room
-    → stepsOf (suc n) s room c ≡ thenTurn (stepOf s c) (stepsOf n s (room - length (stepOf s c .bytes)) (stepOf s c .next))
+    → stepsOf (suc n) s room c ≡ thenSteps (stepOf s c) (stepsOf n s (room - length (stepOf s c .bytes)) (stepOf s c .next))
 unfolding stepsOf
 steps-first n s room c live h =
-    ap (λ (t : Bool). cond t (stay c) (thenTurn (stepOf s c) (stepsOf n s (room - length (stepOf s c .bytes)) (stepOf s c .next))))
+    ap (λ (t : Bool). cond t (stay c) (thenSteps (stepOf s c) (stepsOf n s (room - length (stepOf s c .bytes)) (stepOf s c .next))))
     ((λ k. live k || ltb room mostOutput) ∙ le-ltb room mostOutput h)
 
 pub too-long : (s : List ℕ) (c : Cursor) → 32768 < length s → stepOf s c ≡ stopped Size 0
 unfolding stepOf
 too-long s c h = rw (lt-leb (length s) 32768 h)
 
-pub step-as : (s : List ℕ) (c : Cursor) {x : Record} → length s ≤ 32768 → recordFrom s (c .at) (c .end) ≡ x → stepOf s c ≡ recordTurn s c x
+pub step-as : (s : List ℕ) (c : Cursor) {x : Record} → length s ≤ 32768 → recordFrom s (c .at) (c .end) ≡ x → stepOf s c ≡ recordStep s c x
 unfolding stepOf
 step-as s c h e = rw (le-leb (length s) 32768 h, e)
 
-outcome-one : (c : Cursor) (t : Outcome) (g : Given) → answered c t g .steps ≡ 1
+outcome-one : (c : Cursor) (t : Outcome) (g : Given) → eventStep c t g .steps ≡ 1
 outcome-one c Taken g = refl
 outcome-one c (Refused why) g = refl
 
-events-one : (c : Cursor) (es : List Event) (ss : List ℕ) → firstTurn c es ss .steps ≡ 1
+events-one : (c : Cursor) (es : List Event) (ss : List ℕ) → firstStep c es ss .steps ≡ 1
 events-one c [] ss = refl
 events-one c (e ∷ es) ss = outcome-one c (callOf (c .bridge) e ss .answer .outcome) (callOf (c .bridge) e ss)
 
-body-one : (s : List ℕ) (c : Cursor) (start end : ℕ) (x : Content) → bodyTurn s c start end x .steps ≡ 1
+body-one : (s : List ℕ) (c : Cursor) (start end : ℕ) (x : Content) → bodyStep s c start end x .steps ≡ 1
 body-one s c start end (k.Events fault) = events-one (entered c start end) (eventsOf fault (part s start end)) (lentTo s c)
 body-one s c start end k.Samples = refl
 body-one s c start end (k.Refused why) = refl
 
-record-one : (s : List ℕ) (c : Cursor) (x : Record) → recordTurn s c x .steps ≡ 1
+record-one : (s : List ℕ) (c : Cursor) (x : Record) → recordStep s c x .steps ≡ 1
 record-one s c (r.Body kind start end) = body-one s c start end (contentOf kind (part s start end))
 record-one s c r.End = refl
 record-one s c (r.Refused why) = refl
 
 pub one-step : (s : List ℕ) (c : Cursor) → stepOf s c .steps ≡ 1
 unfolding stepOf
-one-step s c = by-cond (λ (t : Turn). t .steps ≡ 1) (leb (length s) 32768) (λ _. record-one s c (recordFrom s (c .at) (c .end))) (λ _. refl)
+one-step s c = by-cond (λ (t : Steps). t .steps ≡ 1) (leb (length s) 32768) (λ _. record-one s c (recordFrom s (c .at) (c .end))) (λ _. refl)
 
 -- A BODY'S EVENTS from a cursor at their place, as far as they get, and the steps after them
 abbrev pub gone : Cursor → Progress → Cursor
 gone c p = record { bridge = p .bridge; at = c .at + p .read; end = c .end; sample = c .sample + p .used; sampled = c .sampled; done = false }
 
-abbrev pub goneOn : ℕ → List ℕ → ℕ → Cursor → Outcome → Progress → Turn
-goneOn n s room c Taken p = thenTurn (record { next = gone c p; bytes = p .bytes; steps = p .read }) (stepsOf (n - p .read) s (room - length (p .bytes)) (gone c p))
+abbrev pub goneOn : ℕ → List ℕ → ℕ → Cursor → Outcome → Progress → Steps
+goneOn n s room c Taken p = thenSteps (record { next = gone c p; bytes = p .bytes; steps = p .read }) (stepsOf (n - p .read) s (room - length (p .bytes)) (gone c p))
 goneOn n s room c (Refused why) p = record { next = finished; bytes = p .bytes ++ refusalOf why (c .at + p .read); steps = p .read + 1 }
 
 onward-some : (t : Outcome) (b : Bridge) (g : Given) (p : Progress) → onward t b g p .outcome ≡ Taken → 0 < onward t b g p .read
@@ -110,10 +110,10 @@ module _ (s : List ℕ) (h : length s ≤ 32768) where
     g = callOf (c .bridge) e (lentTo s c)
 
     abbrev d : Cursor
-    d = after (entered c start end) (g .answer)
+    d = pastEvent (entered c start end) (g .answer)
 
     joined : (n room : ℕ) (t : Outcome) (p : Progress)
-        → thenTurn (record { next = d; bytes = outputOf g; steps = 1 }) (goneOn n s (room - length (outputOf g)) d t p)
+        → thenSteps (record { next = d; bytes = outputOf g; steps = 1 }) (goneOn n s (room - length (outputOf g)) d t p)
         ≡ goneOn (suc n) s room (entered c start end) t (onward Taken (c .bridge) g p)
     joined n room Taken p =
         let at : start + 1 + p .read ≡ start + (1 + p .read) = omega arith in
@@ -142,12 +142,12 @@ module _ (s : List ℕ) (h : length s ≤ 32768) where
     -- by its outcome; `after` says that the steps from the next cursor go along the rest of the body
     event-along : (n room : ℕ) (t : Outcome)
         → stepsOf n s (room - length (outputOf g)) d ≡ goneOn n s (room - length (outputOf g)) d (more n room .outcome) (more n room)
-        → thenTurn (answered (entered c start end) t g) (stepsOf n s (room - length (answered (entered c start end) t g .bytes)) (answered (entered c start end) t g .next))
+        → thenSteps (eventStep (entered c start end) t g) (stepsOf n s (room - length (eventStep (entered c start end) t g .bytes)) (eventStep (entered c start end) t g .next))
         ≡ goneOn (suc n) s room (entered c start end) (onward t (c .bridge) g (more n room) .outcome) (onward t (c .bridge) g (more n room))
-    event-along n room Taken q = ap (λ (u : Turn). thenTurn (record { next = d; bytes = outputOf g; steps = 1 }) u) q ∙ joined n room (more n room .outcome) (more n room)
+    event-along n room Taken q = ap (λ (u : Steps). thenSteps (record { next = d; bytes = outputOf g; steps = 1 }) u) q ∙ joined n room (more n room .outcome) (more n room)
     event-along n room (Refused why) q =
         let bs = refusalOf why start in
-        ap (λ (u : Turn). thenTurn (record { next = finished; bytes = bs; steps = 1 }) u) (steps-over n s (room - length bs) finished refl)
+        ap (λ (u : Steps). thenSteps (record { next = finished; bytes = bs; steps = 1 }) u) (steps-over n s (room - length bs) finished refl)
         ∙ (λ k. record { next = finished; bytes = (append-nil bs ∙ ap (λ (v : ℕ). refusalOf why v) (sym (add-zero start))) k; steps = 1 })
 
   -- ALONG A BODY of bytes, from a cursor in it or at its end
@@ -175,8 +175,8 @@ module _ (s : List ℕ) (h : length s ≤ 32768) where
         ∙ ap (λ (q : Progress). goneOn n s (room - length (outputOf x)) d′ (q .outcome) q)
         (λ k. progressOf n (room - length (outputOf x)) (sym (no-fault fault (part s (start + 1) end) (λ t. part-none s (start + 1) end (omega (arith, u .single t)))) k) (x .answer .bridge) (lent-rest s (c .sample) (c .sampled) (x .answer .samples) (call-few (c .bridge) e′ (lentTo s c)) k))
 
-    first : stepOf s c ≡ answered (entered c start end) (x .answer .outcome) x
-    first = u .first ∙ ap (λ (l : List ℕ). firstTurn (entered c start end) (eventsOf fault l) (lentTo s c)) (part-first s start end (u .some) (u .within))
+    first : stepOf s c ≡ eventStep (entered c start end) (x .answer .outcome) x
+    first = u .first ∙ ap (λ (l : List ℕ). firstStep (entered c start end) (eventsOf fault l) (lentTo s c)) (part-first s start end (u .some) (u .within))
 
     whole : progressOf (suc n) room (eventsOf fault (part s start end)) (c .bridge) (lentTo s c) ≡ onward (x .answer .outcome) (c .bridge) x p
     whole =
@@ -191,7 +191,7 @@ module _ (s : List ℕ) (h : length s ≤ 32768) where
         ≡ goneOn (suc n) s room (entered c start end) (progressOf (suc n) room (eventsOf fault (part s start end)) (c .bridge) (lentTo s c) .outcome) (progressOf (suc n) room (eventsOf fault (part s start end)) (c .bridge) (lentTo s c))
     enters =
         steps-first n s room c live r
-        ∙ ap (λ (t : Turn). thenTurn t (stepsOf n s (room - length (t .bytes)) (t .next))) first
+        ∙ ap (λ (t : Steps). thenSteps t (stepsOf n s (room - length (t .bytes)) (t .next))) first
         ∙ event-along c fault start end (u .some) (u .within) n room (x .answer .outcome) rest
         ∙ ap (λ (q : Progress). goneOn (suc n) s room (entered c start end) (q .outcome) q) (sym whole)
 

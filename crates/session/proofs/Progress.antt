@@ -10,7 +10,7 @@ use lib.ListN.{length, drop}
 use Rattle.codes.proofs.Both.{both-left, both-right}
 use Rattle.registers.specs.declared.Event.{Event}
 use Rattle.registers.specs.declared.State.{State}
-use Rattle.bridge.specs.Calls.{Given}
+use Rattle.bridge.specs.Answering.{Given}
 use Rattle.bridge.specs.declared.Bridge.{Bridge}
 use Rattle.bridge.specs.declared.Outcome.{Outcome}
 use Rattle.bridge.specs.declared.Outcome.the-variants.{Taken, Refused}
@@ -18,7 +18,7 @@ use Rattle.records.specs.Contents.{eventsOf}
 use Rattle.records.proofs.Choices.{by-bool, by-cond}
 use Rattle.session.specs.History.{callOf, outputOf}
 use Rattle.session.specs.Runs.{mostOutput}
-use Rattle.session.specs.Said.{bridgeOf, Reach, Progress, halt, onward, progressOf, Reached}
+use Rattle.session.specs.Inner.{bridgeOf, Reach, Progress, halt, onward, progressOf, Reached}
 use Rattle.session.proofs.Parts.{events-length}
 
 pub progress-step : (n room : ℕ) (e : Event) (es : List Event) (b : Bridge) (ss : List ℕ) → mostOutput ≤ room

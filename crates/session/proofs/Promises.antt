@@ -12,17 +12,17 @@ use Rattle.wire.proofs.Buffers.{overwrite-through}
 use Rattle.records.specs.Records.{recordFrom}
 use Rattle.records.proofs.Choices.{by-bool}
 use Rattle.session.specs.History.{historyOf, written, replayOf}
-use Rattle.session.specs.Runs.{Cursor, Ran, mostOutput, begin, Turn, stay, thenTurn, stepOf, stepsOf, finished, allSteps, left, Runs, aheadOf, restOf, Promised, RunStops, Calls, over, call, JoinedChunks}
+use Rattle.session.specs.Runs.{Cursor, Ran, mostOutput, begin, Steps, stay, thenSteps, stepOf, stepsOf, finished, allSteps, left, Runs, aheadOf, restOf, Promised, RunStops, Calls, over, call, JoinedChunks}
 use Rattle.session.proofs.Records.{all-records}
 use Rattle.session.proofs.Rest.{left-live, left-done, rest-done, rest-step, falls}
 use Rattle.session.proofs.Along.{steps-over, steps-short, steps-none, steps-first, one-step, too-long}
 
 -- A FACT OF STEPS holds if it holds of none, and of a first one and the steps after it
-module _ (P : ℕ → ℕ → Cursor → Turn → Type 0) (s : List ℕ)
+module _ (P : ℕ → ℕ → Cursor → Steps → Type 0) (s : List ℕ)
     (over : (n room : ℕ) (c : Cursor) → c .done ≡ true → P n room c (stay c))
     (short : (n room : ℕ) (c : Cursor) → room < mostOutput → P n room c (stay c))
     (none : (room : ℕ) (c : Cursor) → P 0 room c (stay c))
-    (first : (n room : ℕ) (c : Cursor) (t : Turn) → c .done ≡ false → mostOutput ≤ room → P n (room - length (stepOf s c .bytes)) (stepOf s c .next) t → P (suc n) room c (thenTurn (stepOf s c) t)) where
+    (first : (n room : ℕ) (c : Cursor) (t : Steps) → c .done ≡ false → mostOutput ≤ room → P n (room - length (stepOf s c .bytes)) (stepOf s c .next) t → P (suc n) room c (thenSteps (stepOf s c) t)) where
   by-steps : (n room : ℕ) (c : Cursor) → P n room c (stepsOf n s room c)
   by-steps zero room c = subst (P 0 room c) (sym (steps-none s room c)) (none room c)
   by-steps (suc n) room c =
@@ -53,7 +53,7 @@ spent s =
 pub further : (n : ℕ) (s : List ℕ) (room : ℕ) (c : Cursor) → 0 < n → mostOutput ≤ room → c .done ≡ false → left s (stepsOf n s room c .next) < left s c
 further n s room c more h live =
     let m : n ≡ suc (n - 1) = omega arith in
-    subst (λ (t : Turn). left s (t .next) < left s c) (sym (ap (λ (v : ℕ). stepsOf v s room c) m ∙ steps-first (n - 1) s room c live h))
+    subst (λ (t : Steps). left s (t .next) < left s c) (sym (ap (λ (v : ℕ). stepsOf v s room c) m ∙ steps-first (n - 1) s room c live h))
     (omega (arith, spent s (n - 1) (room - length (stepOf s c .bytes)) (stepOf s c .next), falls s c live))
 
 -- A RUN makes all the steps that there are
@@ -65,15 +65,15 @@ over-by s c h = by-bool (c .done) (λ t. t) (λ t. absurd (omega (arith, left-li
 
 long-stops : (s : List ℕ) (n room : ℕ) (c : Cursor) → 32768 < length s → (stepsOf (suc n) s room c .next .done ≡ true) ⊎ (room - length (stepsOf (suc n) s room c .bytes) < mostOutput)
 long-stops s n room c h =
-    by-bool (c .done) (λ t. inl (ap (λ (u : Turn). u .next .done) (steps-over (suc n) s room c t) ∙ t))
+    by-bool (c .done) (λ t. inl (ap (λ (u : Steps). u .next .done) (steps-over (suc n) s room c t) ∙ t))
     (λ t. by-bool (ltb room mostOutput)
-    (λ v. inr (omega (arith, ap (λ (u : Turn). length (u .bytes)) (steps-short (suc n) s room c (ltb-true room mostOutput v)), ltb-true room mostOutput v)))
+    (λ v. inr (omega (arith, ap (λ (u : Steps). length (u .bytes)) (steps-short (suc n) s room c (ltb-true room mostOutput v)), ltb-true room mostOutput v)))
     (λ v.
     inl
-    (ap (λ (u : Turn). u .next .done)
+    (ap (λ (u : Steps). u .next .done)
     (steps-first n s room c t (ltb-false room mostOutput v)
-    ∙ ap (λ (u : Turn). thenTurn u (stepsOf n s (room - length (u .bytes)) (u .next))) (too-long s c h))
-    ∙ ap (λ (u : Turn). u .next .done) (steps-over n s _ finished refl))))
+    ∙ ap (λ (u : Steps). thenSteps u (stepsOf n s (room - length (u .bytes)) (u .next))) (too-long s c h))
+    ∙ ap (λ (u : Steps). u .next .done) (steps-over n s _ finished refl))))
 
 pub run-stops : RunStops
 run-stops s room c =

@@ -6,8 +6,8 @@ ghost use lib.ListN.{length};
 ghost use Rattle.records.specs.Records.{part};
 ghost use Rattle.records.specs.Contents.{contentOf};
 ghost use Rattle.session.specs.History.{lastOf};
-ghost use Rattle.session.specs.Runs.{mostOutput, finished, turn, stopped, bodyTurn, stepOf, Turned};
-ghost use Rattle.session.specs.Said.{Goes, Ready, Entering};
+ghost use Rattle.session.specs.Runs.{mostOutput, finished, oneStep, stopped, bodyStep, stepOf, RanSteps};
+ghost use Rattle.session.specs.Inner.{Goes, CanStep, Entering};
 use crate::events;
 use crate::output;
 use crate::replay::Cursor;
@@ -25,9 +25,9 @@ use records::reading::record_from;
 use refusals::Refusal;
 
 // The run ends here with a refusal and its place. The caller shows room for its record.
-fn stop(why: Refusal, place: usize, out: &mut [u8]) -> Ran
+pub(crate) fn stop(why: Refusal, place: usize, out: &mut [u8]) -> Ran
     requires { ⌜ 10 ≤ length (now out) ⌝ }
-    ensures { λ r. ⌜ Turned (stopped why place) (now (out .entry)) (now (out .exit)) r ⌝ }
+    ensures { λ r. ⌜ RanSteps (stopped why place) (now (out .entry)) (now (out .exit)) r ⌝ }
 {
     let written = output::put_refusal(out, why, place);
     let cursor = ended();
@@ -39,9 +39,9 @@ fn stop(why: Refusal, place: usize, out: &mut [u8]) -> Ran
 }
 
 // The run ends here with the last record. The caller shows room for it.
-fn last(c: Cursor, out: &mut [u8]) -> Ran
+pub(crate) fn last(c: Cursor, out: &mut [u8]) -> Ran
     requires { ⌜ 5 ≤ length (now out) ⌝ }
-    ensures { λ r. ⌜ Turned (turn finished (lastOf (c .bridge .state .wait))) (now (out .entry)) (now (out .exit)) r ⌝ }
+    ensures { λ r. ⌜ RanSteps (oneStep finished (lastOf (c .bridge .state .wait))) (now (out .entry)) (now (out .exit)) r ⌝ }
 {
     let s = c.bridge.state;
     let w = s.wait;
@@ -55,7 +55,7 @@ fn last(c: Cursor, out: &mut [u8]) -> Ran
 }
 
 // A step that writes nothing.
-fn pass(cursor: Cursor) -> Ran
+pub(crate) fn pass(cursor: Cursor) -> Ran
     ensures { λ r. ⌜ r ≡ record { cursor = cursor; written = 0; steps = 1 } ⌝ }
 {
     Ran {
@@ -76,7 +76,7 @@ fn play(
     budget: usize,
     out: &mut [u8],
 ) -> Ran
-    requires { ⌜ Ready budget (now session) c (now out) × Entering (now session) c fault start end ⌝ }
+    requires { ⌜ CanStep budget (now session) c (now out) × Entering (now session) c fault start end ⌝ }
     ensures { λ r. ⌜ Goes budget (now (session .entry)) c (now (out .entry)) (now (out .exit)) r ⌝ }
 {
     let s = c.bridge.state;
@@ -121,7 +121,7 @@ fn take_body(
     budget: usize,
     out: &mut [u8],
 ) -> Ran
-    requires { ⌜ Ready budget (now session) c (now out) × (start ≤ end) × (end ≤ length (now session)) × (stepOf (now session) c ≡ bodyTurn (now session) c start end (contentOf kind (part (now session) start end))) ⌝ }
+    requires { ⌜ CanStep budget (now session) c (now out) × (start ≤ end) × (end ≤ length (now session)) × (stepOf (now session) c ≡ bodyStep (now session) c start end (contentOf kind (part (now session) start end))) ⌝ }
     ensures { λ r. ⌜ Goes budget (now (session .entry)) c (now (out .entry)) (now (out .exit)) r ⌝ }
 {
     let content = content_of(kind, &session[start..end]);

@@ -142,10 +142,12 @@ fn step(color: bool, from: Walked, session: &[u8], out: &mut [u8]) -> Walked
 {
     let c = from.cursor;
     let t = from.shown;
-    let r = session::replay::advance(c, session, out);
+    let a = session::replay::advance(c, session, out);
+    let r = a.ran;
+    let returned = a.returned;
     let n = r.written;
     let cursor = r.cursor;
-    let shown = show_step(color, c, cursor, session, &out[..n], t);
+    let shown = show_step(color, c, cursor, returned, session, &out[..n], t);
     Walked { cursor, shown }
 }
 

@@ -2,7 +2,7 @@
 use borrow.Author.Needs.{needs}
 use borrow.Author.Tests.{not-true, not-false}
 use mathlib.Core.Path.{sym, _∙_}
-use Rattle.bridge.specs.Calls.{lent}
+use Rattle.bridge.specs.Answering.{lent}
 use Rattle.image.proofs.Images.{state-image}
 use Rattle.export.proofs.Ways.{step-no-state, step-no-event, step-answers}
 use Rattle.export.proofs.bridge_step.Statement.{statement}

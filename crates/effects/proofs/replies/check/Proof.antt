@@ -1,6 +1,5 @@
--- By the sample.
+-- The code that the sample gives, stored.
 use borrow.Author.Needs.{needs}
-use borrow.Author.Tests.{eq-eqb, ne-eqb}
 use Rattle.effects.proofs.replies.check.Statement.{statement}
 use Rattle.effects.proofs.replies.check.Tie as tie
 
@@ -9,6 +8,5 @@ check-spec =
     tie.close
     (tie.spec
     (λ c κs. search needs)
-    (λ c. rw (ne-eqb _ _ (c .before .if1 .taken)) (c .store .ensures))
     (λ c κs. search needs)
-    (λ c. rw (eq-eqb _ _ (c .before .if1 .left)) (c .store2 .ensures)))
+    (λ c. rw (← c .before .checked .ensures) (c .store .ensures)))

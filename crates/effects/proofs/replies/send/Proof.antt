@@ -1,6 +1,6 @@
 -- Data sent leaves ERROR and is sent whole.
 use Rattle.effects.specs.Replies.{replyBytes}
-use Rattle.effects.proofs.Settlements.{all-sent}
+use Rattle.effects.proofs.Responses.{all-sent}
 use Rattle.effects.proofs.replies.send.Statement.{statement}
 use Rattle.effects.proofs.replies.send.Tie as tie
 

@@ -3,7 +3,7 @@ use borrow.Author.Tests.{eq-eqb, ne-eqb}
 use mathlib.Core.Bool.{true, false}
 use Rattle.packet.specs.Packet.{lowBytes}
 use Rattle.registers.specs.Registers.{bitsIn}
-use Rattle.effects.proofs.Settlements.{coded}
+use Rattle.effects.proofs.Responses.{coded}
 use Rattle.effects.proofs.replies.store_then_low.Statement.{statement}
 use Rattle.effects.proofs.replies.store_then_low.Tie as tie
 

@@ -4,7 +4,7 @@ use borrow.Author.Tests.{not-true, not-false}
 use mathlib.Core.Path.{sym, _∙_}
 use lib.ListN.{length-map}
 use Rattle.registers.specs.Ranges.{Sized}
-use Rattle.session.proofs.Carried.{event-refused, actions-fit, says-size, replies-fit, event-taken}
+use Rattle.session.proofs.Carried.{event-refused, actions-fit, says-size, replies-fit, event-accepted}
 use Rattle.session.proofs.events.take_event.Statement.{statement}
 use Rattle.session.proofs.events.take_event.Tie as tie
 
@@ -30,17 +30,17 @@ take-event-spec =
     (λ c.
     let p = c .before .before .before in
     let s = p .before .before .before in
-    event-refused (s .args .s) (s .args .event) (s .args .samples .now) (s .args .out .now) (s .pre .0) (sized s) (s .pre .1) (p .prepare .result) (p .prepare .ensures) (sym (c .before .before .fits2 .ensures) ∙ not-true _ (c .before .if1 .taken)) (c .short .ensures))
+    event-refused (s .args .s) (s .args .event) (s .args .samples .now) (s .args .out .now) (s .pre .0) (sized s) (s .pre .1) (p .measure .result) (p .measure .ensures) (sym (c .before .before .fits2 .ensures) ∙ not-true _ (c .before .if1 .taken)) (c .short .ensures))
     (λ c κs.
     let p = c .before .before .before .before .before in
     let s = p .before .before .before in
-    (p .prepare .ensures .page-small, actions-fit (s .args .s) (s .args .event) (s .args .samples .now) (s .args .out .now) (s .pre .0) (sized s) (s .pre .1) (p .prepare .result) (p .prepare .ensures)))
+    (p .measure .ensures .page-small, actions-fit (s .args .s) (s .args .event) (s .args .samples .now) (s .args .out .now) (s .pre .0) (sized s) (s .pre .1) (p .measure .result) (p .measure .ensures)))
     (λ c κs.
     let p = c .before .before .before .before .before .before .before .before .before in
     let s = p .before .before .before in
-    (p .prepare .ensures .state-small, says-size (s .args .s) (s .args .event) (s .args .samples .now) (s .args .out .now) (s .pre .0) (sized s) (s .pre .1) (p .prepare .result) (p .prepare .ensures), replies-fit (s .args .s) (s .args .event) (s .args .samples .now) (s .args .out .now) (s .pre .0) (sized s) (s .pre .1) (p .prepare .result) (p .prepare .ensures) (c .before .before .before .put-actions .ensures)))
+    (p .measure .ensures .state-small, says-size (s .args .s) (s .args .event) (s .args .samples .now) (s .args .out .now) (s .pre .0) (sized s) (s .pre .1) (p .measure .result) (p .measure .ensures), replies-fit (s .args .s) (s .args .event) (s .args .samples .now) (s .args .out .now) (s .pre .0) (sized s) (s .pre .1) (p .measure .result) (p .measure .ensures) (c .before .before .before .put-actions .ensures)))
     (λ c. search needs)
     (λ c.
     let p = c .before .before .before .before .before .before .before .before .before .before .before .before in
     let s = p .before .before .before in
-    event-taken (s .args .s) (s .args .event) (s .args .samples .now) (s .args .out .now) (s .pre .0) (sized s) (s .pre .1) (p .prepare .result) (p .prepare .ensures) (c .before .before .before .before .before .before .put-actions .ensures) (c .before .before .put-replies .ensures) (sym (c .before .before .before .before .before .before .before .before .before .before .before .fits2 .ensures) ∙ not-false _ (c .before .before .before .before .before .before .before .before .before .before .if1 .left))))
+    event-accepted (s .args .s) (s .args .event) (s .args .samples .now) (s .args .out .now) (s .pre .0) (sized s) (s .pre .1) (p .measure .result) (p .measure .ensures) (c .before .before .before .before .before .before .put-actions .ensures) (c .before .before .put-replies .ensures) (sym (c .before .before .before .before .before .before .before .before .before .before .before .fits2 .ensures) ∙ not-false _ (c .before .before .before .before .before .before .before .before .before .before .if1 .left))))

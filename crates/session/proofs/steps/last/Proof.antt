@@ -1,6 +1,6 @@
 -- The last record, and a cursor that is over.
 use borrow.Author.Needs.{needs}
-use Rattle.session.proofs.Playing.{turned-last}
+use Rattle.session.proofs.Playing.{ran-last}
 use Rattle.session.proofs.steps.last.Statement.{statement}
 use Rattle.session.proofs.steps.last.Tie as tie
 
@@ -13,4 +13,4 @@ last-spec =
     (λ c. search needs)
     (λ c.
     let s = c .before .before .before .before .before .before .before in
-    turned-last (s .args .c .bridge .state .wait) _ (s .pre) (c .ended .ensures) (c .before .before .before .put-last .ensures)))
+    ran-last (s .args .c .bridge .state .wait) _ (s .pre) (c .ended .ensures) (c .before .before .before .put-last .ensures)))

@@ -1,6 +1,6 @@
 -- The record of the refusal, and a cursor that is over.
 use borrow.Author.Needs.{needs}
-use Rattle.session.proofs.Playing.{turned-stop}
+use Rattle.session.proofs.Playing.{ran-stop}
 use Rattle.session.proofs.steps.stop.Statement.{statement}
 use Rattle.session.proofs.steps.stop.Tie as tie
 
@@ -13,4 +13,4 @@ stop-spec =
     (λ c. search needs)
     (λ c.
     let s = c .before .before .before .before .before .before in
-    turned-stop (s .args .why) _ _ (s .pre) (c .ended .ensures) (c .before .before .before .put-refusal .ensures)))
+    ran-stop (s .args .why) _ _ (s .pre) (c .ended .ensures) (c .before .before .before .put-refusal .ensures)))

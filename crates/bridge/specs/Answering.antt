@@ -2,15 +2,17 @@
 -- this, and the demands (Demands.antt) are about it.
 use Prim.Native.Nat.{ℕ}
 use mathlib.Core.Bool.{Bool, cond}
-use mathlib.Core.List.{List}
+use mathlib.Core.List.{List, []}
 use lib.ListN.{length}
 use Rattle.wire.specs.Action.{bytesOf}
 use Rattle.wire.specs.Buffer.{overwrite, fitsIn}
 use Rattle.registers.specs.Ranges.{stateFits}
 use Rattle.registers.specs.declared.State.{State}
 use Rattle.registers.specs.declared.Event.{Event}
+use Rattle.commands.specs.Said.{codesOf}
 use Rattle.commands.specs.Effects.{Effect, sentBy}
 use Rattle.commands.specs.Events.{effectOf}
+use Rattle.effects.specs.Returning.{codesIn}
 use Rattle.refusals.specs.declared.Refusal.{Refusal}
 use Rattle.refusals.specs.declared.Refusal.the-variants.{Ranges, Samples, Actions, Replies}
 pub use Rattle.bridge.specs.declared.Bridge.{Bridge}
@@ -30,18 +32,31 @@ pub record Lent : Type 0 where
 abbrev pub lent : List ℕ → ℕ → List ℕ → ℕ → List ℕ → ℕ → Lent
 lent ss m as′ a rs r = record { samples = ss; sampled = m; actions = as′; acted = a; replies = rs; replied = r }
 
+-- what a call answers: the bridge, the outcome, the codes returned, and "three counts: samples used, reply bytes, actions"
+pub record Answered : Type 0 where
+  pub bridge : Bridge
+  pub outcome : Outcome
+  pub codes : List ℕ
+  pub samples : ℕ
+  pub replies : ℕ
+  pub actions : ℕ
+
+-- .. as `step` hands it back
+abbrev pub answered : Stepped → Answered
+answered r = record { bridge = r .bridge; outcome = r .outcome; codes = codesIn (r .returned); samples = r .samples; replies = r .replies; actions = r .actions }
+
 -- what a call gives: its answer, and what it leaves in the two buffers
 pub record Given : Type 0 where
-  pub answer : Stepped
+  pub answer : Answered
   pub actions : List ℕ
   pub replies : List ℕ
 
-abbrev pub given : Stepped → List ℕ → List ℕ → Given
+abbrev pub given : Answered → List ℕ → List ℕ → Given
 given x as′ rs = record { answer = x; actions = as′; replies = rs }
 
--- "Each returns what it was given, with zero counts and lent memory untouched"
-abbrev pub refusal : Bridge → Refusal → Stepped
-refusal b why = record { bridge = b; outcome = Refused why; samples = 0; replies = 0; actions = 0 }
+-- "Each returns what it was given, with zero counts and lent memory untouched"; an event that is refused returns no code
+abbrev pub refusal : Bridge → Refusal → Answered
+refusal b why = record { bridge = b; outcome = Refused why; codes = []; samples = 0; replies = 0; actions = 0 }
 
 abbrev pub refused : Bridge → Lent → Refusal → Given
 refused b l why = given (refusal b why) (l .actions) (l .replies)
@@ -50,13 +65,12 @@ refused b l why = given (refusal b why) (l .actions) (l .replies)
 abbrev pub effect : Bridge → Event → Lent → Effect
 effect b e l = effectOf (b .state) e (l .samples) (l .sampled)
 
--- "The answer carries three counts: samples used, reply bytes, actions."
-abbrev pub acceptance : State → ℕ → ℕ → ℕ → Stepped
-acceptance s samples replies actions = record { bridge = record { state = s }; outcome = Taken; samples = samples; replies = replies; actions = actions }
+abbrev pub acceptance : State → List ℕ → ℕ → ℕ → ℕ → Answered
+acceptance s codes samples replies actions = record { bridge = record { state = s }; outcome = Taken; codes = codes; samples = samples; replies = replies; actions = actions }
 
 -- "Replies and actions of an event are written to the unused rest of a lent buffer"
-abbrev pub taken : Effect → Lent → Given
-taken x l = given (acceptance (x .state) (x .used) (length (sentBy x)) (length (x .actions))) (overwrite (l .actions) (l .acted) (bytesOf (x .actions))) (overwrite (l .replies) (l .replied) (sentBy x))
+abbrev pub accepted : Effect → Lent → Given
+accepted x l = given (acceptance (x .state) (codesOf (x .said)) (x .used) (length (sentBy x)) (length (x .actions))) (overwrite (l .actions) (l .acted) (bytesOf (x .actions))) (overwrite (l .replies) (l .replied) (sentBy x))
 
 -- a call is refused unless a test says true
 abbrev pub unless : Bool → Given → Given → Given
@@ -69,4 +83,4 @@ answerOf b e l =
     (unless (fitsIn (length (l .samples)) (l .sampled) ((effect b e l) .used)) (refused b l Samples)
     (unless (fitsIn (length (l .actions)) (l .acted) (length (bytesOf ((effect b e l) .actions)))) (refused b l Actions)
     (unless (fitsIn (length (l .replies)) (l .replied) (length (sentBy (effect b e l)))) (refused b l Replies)
-    (taken (effect b e l) l))))
+    (accepted (effect b e l) l))))

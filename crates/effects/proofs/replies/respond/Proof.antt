@@ -1,10 +1,10 @@
 -- Answer by answer, what it leaves and sends.
 use borrow.Author.Needs.{needs}
-use Rattle.effects.proofs.replies.settle.Statement.{statement}
-use Rattle.effects.proofs.replies.settle.Tie as tie
+use Rattle.effects.proofs.replies.respond.Statement.{statement}
+use Rattle.effects.proofs.replies.respond.Tie as tie
 
-pub settle-spec : {M : Type 1} → statement M
-settle-spec =
+pub respond-spec : {M : Type 1} → statement M
+respond-spec =
     tie.close
     (tie.spec
     (λ c. search needs)

@@ -9,19 +9,19 @@ use Rattle.commands.specs.Said.{returned, sent, errorAfter, repliesOf}
 use Rattle.commands.specs.Effects.{withErrorOf}
 use Rattle.commands.proofs.Choices.{chosen}
 use Rattle.commands.proofs.Sent.{error-sent, replies-sent}
-use Rattle.effects.specs.Replies.{settlement, settlementOf}
+use Rattle.effects.specs.Replies.{response, responseOf}
 
 module _ (s : State) (xs : List ℕ) where
-  pub all-sent : settlement s xs ≡ settlementOf s (map sent xs)
+  pub all-sent : response s xs ≡ responseOf s (map sent xs)
   all-sent =
-      ap (λ (e : ℕ). settlement (withPage s (withError (s .page) e)) xs) (sym (error-sent (s .page .error) xs))
-      ∙ ap (λ (r : List ℕ). settlement (withErrorOf s (map sent xs)) r) (sym (replies-sent (reportsOn (s .page .flags)) xs))
+      ap (λ (e : ℕ). response (withPage s (withError (s .page) e)) xs) (sym (error-sent (s .page .error) xs))
+      ∙ ap (λ (r : List ℕ). response (withErrorOf s (map sent xs)) r) (sym (replies-sent (reportsOn (s .page .flags)) xs))
 
   -- a code and then data, with reports on or off
-  pub coded : (k : ℕ) (on : Bool) → reportsOn (s .page .flags) ≡ on → settlement (withPage s (withError (s .page) k)) (cond on (k ∷ xs) xs) ≡ settlementOf s (returned k ∷ map sent xs)
+  pub coded : (k : ℕ) (on : Bool) → reportsOn (s .page .flags) ≡ on → response (withPage s (withError (s .page) k)) (cond on (k ∷ xs) xs) ≡ responseOf s (returned k ∷ map sent xs)
   unfolding errorAfter repliesOf
   coded k on e =
       let reports = reportsOn (s .page .flags) in
-      ap (λ (x : ℕ). settlement (withPage s (withError (s .page) x)) (cond on (k ∷ xs) xs)) (sym (error-sent k xs))
-      ∙ ap (λ (q : List ℕ). settlement (withPage s (withError (s .page) (errorAfter k (map sent xs)))) q)
+      ap (λ (x : ℕ). response (withPage s (withError (s .page) x)) (cond on (k ∷ xs) xs)) (sym (error-sent k xs))
+      ∙ ap (λ (q : List ℕ). response (withPage s (withError (s .page) (errorAfter k (map sent xs)))) q)
       (chosen reports (k ∷ xs) xs e ∙ ap (λ (r : List ℕ). cond reports (k ∷ r) r) (sym (replies-sent reports xs)))

@@ -1,4 +1,4 @@
--- For the contract of `prepare`, which measures an event before anything is written; 01 does not speak of it.
+-- For the contract of `measure`, which measures an event before anything is written; 01 does not speak of it.
 use Prim.Native.Nat.{ℕ, _*_, _<_}
 use mathlib.Core.Path.{_≡_}
 use mathlib.Core.List.{List}
@@ -7,16 +7,19 @@ use Rattle.packet.specs.Packet.{width}
 use Rattle.registers.specs.declared.State.{State}
 use Rattle.registers.specs.declared.Event.{Event}
 use Rattle.signals.specs.Waveforms.{waveOf}
+use Rattle.commands.specs.Said.{codesOf}
 use Rattle.commands.specs.Effects.{sentBy}
 use Rattle.commands.specs.Events.{effectOf}
 use Rattle.effects.specs.Replies.{replyBytes}
-pub use Rattle.bridge.specs.declared.preparing.Ready.{Ready}
+use Rattle.effects.specs.Returning.{codesIn}
+pub use Rattle.bridge.specs.declared.measuring.Measured.{Measured}
 
--- what is ready is the event's effect, and the size register stays in range
-pub record Prepared (s : State) (e : Event) (ss : List ℕ) (m : ℕ) (r : Ready) : Type 0 where
+-- what is measured is the event's effect, and the size register stays in range
+pub record MeasuredAs (s : State) (e : Event) (ss : List ℕ) (m : ℕ) (r : Measured) : Type 0 where
   pub used : r .used ≡ (effectOf s e ss m) .used
   pub bytes : r .bytes ≡ 4 * length ((effectOf s e ss m) .actions)
   pub state : r .state ≡ (effectOf s e ss m) .state
+  pub codes : codesIn (r .returned) ≡ codesOf ((effectOf s e ss m) .said)
   pub replies : replyBytes (r .state) (r .reply) ≡ sentBy (effectOf s e ss m)
   pub size : r .size ≡ length (sentBy (effectOf s e ss m))
   pub actions : (waveOf (r .page) (r .wave) ss m) .actions ≡ (effectOf s e ss m) .actions
