@@ -75,13 +75,7 @@ fn refused(b: Bridge, why: Refusal) -> Stepped
 }
 
 // A taken call's answer, with the actions counted from their bytes.
-fn accepted(
-    s: State,
-    returned: Returned,
-    samples: usize,
-    replies: usize,
-    bytes: usize,
-) -> Stepped
+fn accepted(s: State, returned: Returned, samples: usize, replies: usize, bytes: usize) -> Stepped
     ensures { λ r. ⌜ answered r ≡ acceptance s (codesIn returned) samples replies (bytes / 4) ⌝ }
 {
     Stepped {

@@ -60,7 +60,7 @@ module _ (c : Cursor) (fault : Bool) (start end : ℕ) (body ss o : List ℕ) wh
         let f = done .accepted k′ in
         record {
           ran = subst (λ (t : Outcome). RanSteps (eventStep (entered c start end) t g) o x (record { cursor = q; written = d .written; steps = 1 })) (sym k′)
-          (record { next = e ∙ (λ i. record { bridge = f .0 i; at = start + 1; end = end; sample = c .sample + f .1 i; sampled = c .sampled; done = false }); wrote = f .2; steps = refl; within = done .within });
+              (record { next = e ∙ (λ i. record { bridge = f .0 i; at = start + 1; end = end; sample = c .sample + f .1 i; sampled = c .sampled; done = false }); wrote = f .2; steps = refl; within = done .within });
           codes-as = done .codes;
         }
 
