@@ -64,7 +64,8 @@ fn first_clock(session: &[u8]) -> u8 {
     let mut records = io::buffer();
     let mut cursor = session::replay::start();
     while !cursor.done {
-        let r = session::replay::advance(cursor, session, &mut records);
+        let a = session::replay::advance(cursor, session, &mut records);
+        let r = a.ran;
         let n = r.written;
         let next = r.cursor;
         cursor = next;
@@ -89,7 +90,8 @@ fn write_dump(session: &[u8], pull_up: bool) {
     let mut cursor = session::replay::start();
     while !cursor.done {
         let from = d.at_sample(cursor.sample);
-        let r = session::replay::advance(cursor, session, &mut records);
+        let a = session::replay::advance(cursor, session, &mut records);
+        let r = a.ran;
         let n = r.written;
         let next = r.cursor;
         cursor = next;

@@ -31,7 +31,7 @@ fn next_level(d: Dump, session: &[u8]) -> u8 {
 }
 
 // A line that is not driven shows the level that is sampled next, if that comes before anything else on it, or is free.
-fn settle(d: Dump, line: usize, actions: &[u8], session: &[u8]) -> Dump {
+fn show_free(d: Dump, line: usize, actions: &[u8], session: &[u8]) -> Dump {
     if d.is_driven(line) {
         return d;
     }
@@ -42,11 +42,11 @@ fn settle(d: Dump, line: usize, actions: &[u8], session: &[u8]) -> Dump {
 }
 
 // The same of every line, for the start of an event and, with no actions ahead, for its end.
-fn settle_all(d: Dump, actions: &[u8], session: &[u8]) -> Dump {
+fn show_free_lines(d: Dump, actions: &[u8], session: &[u8]) -> Dump {
     let mut e = d;
     let mut line: usize = 0;
     while line < LINES {
-        let next = settle(e, line, actions, session);
+        let next = show_free(e, line, actions, session);
         e = next;
         line += 1;
     }
@@ -60,7 +60,7 @@ fn drive(d: Dump, a: Action) -> Dump {
 
 fn release(d: Dump, a: Action, rest: &[u8], session: &[u8]) -> Dump {
     let line = a.line as usize;
-    settle(d.drive(line, false), line, rest, session)
+    show_free(d.drive(line, false), line, rest, session)
 }
 
 fn samples_free_line(d: Dump, a: Action) -> bool {
@@ -177,7 +177,7 @@ fn show_action(
 
 // An event by its actions.
 pub(crate) fn show_event(d: Dump, actions: &[u8], session: &[u8], text: &mut [u8]) -> Dump {
-    let mut e = settle_all(d, actions, session);
+    let mut e = show_free_lines(d, actions, session);
     let mut before = no_action();
     let mut at: usize = 0;
     while ACTION_BYTES <= actions.len() - at {
@@ -187,5 +187,5 @@ pub(crate) fn show_event(d: Dump, actions: &[u8], session: &[u8], text: &mut [u8
         e = next;
         before = a;
     }
-    settle_all(e, b"", session)
+    show_free_lines(e, b"", session)
 }

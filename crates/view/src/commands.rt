@@ -3,7 +3,6 @@ use crate::text::say;
 use crate::text::say_count;
 use crate::text::say_words;
 use names::ROWS;
-use registers::Event;
 use registers::Operand;
 use registers::PortRegister;
 use registers::Wait;
@@ -44,7 +43,7 @@ fn say_operand(o: Operand) {
 }
 
 // Whether the interface of a row's command is selected; a common or extended one needs none.
-pub(crate) fn selected(row: usize, flags: u8) -> bool {
+fn selected(row: usize, flags: u8) -> bool {
     let code = names::code(row);
     if names::extended(row) | (code < 0x20) {
         return true;
@@ -56,27 +55,6 @@ pub(crate) fn selected(row: usize, flags: u8) -> bool {
         return flags / 2 % 2 == 1;
     }
     flags / 4 % 2 == 1
-}
-
-// The row of the command that a byte is where nothing or an extended byte is waited for; ROWS where it is none.
-fn byte_row(w: Wait, byte: u8) -> usize {
-    match w {
-        Wait::Nothing => names::find(byte, false),
-        Wait::One(_) => ROWS,
-        Wait::Extended => names::find(byte, true),
-        Wait::Packet {
-            left: _,
-            exchange: _,
-        } => ROWS,
-        Wait::Timings { left: _ } => ROWS,
-    }
-}
-
-pub(crate) fn event_row(w: Wait, e: Event) -> usize {
-    match e {
-        Event::Byte(byte) => byte_row(w, byte),
-        Event::Fault(_) => ROWS,
-    }
 }
 
 fn say_command(row: usize, flags: u8) {

@@ -1,17 +1,22 @@
 // An event's block: what came, what the bridge did and replied, and what it then waits for.
-use crate::commands::event_row;
 use crate::commands::say_byte;
 use crate::commands::say_wait;
-use crate::replies::codes_first;
+use crate::replies::codes_sent;
 use crate::replies::say_error;
 use crate::text::bold;
 use crate::text::no_color;
 use crate::text::say;
 use crate::text::say_hex;
 use crate::text::say_number;
+use effects::Returned;
 use registers::Event;
 use registers::Fault;
 use registers::State;
+use registers::Wait;
+use registers::parts::reports_on;
+
+// The command that sends ERROR.
+const READ_ERROR: u8 = 0x04;
 
 fn say_fault(f: Fault) {
     match f {
@@ -44,10 +49,22 @@ pub(crate) fn say_head(color: bool, place: usize, s: State, e: Event) {
     no_color(color);
 }
 
-// How many replies to an event, from the first on, are codes.
-pub(crate) fn codes_of(s: State, e: Event) -> usize {
+// Whether an event is 04, which sends ERROR.
+fn sends_error(w: Wait, e: Event) -> bool {
+    match e {
+        Event::Byte(byte) => (byte == READ_ERROR) & bridge::is_idle(w),
+        Event::Fault(_) => false,
+    }
+}
+
+// How many of the replies to an event, from the first on, are codes, by the states before and after it and the codes that it returned.
+// ERROR, which 04 sends, is a code.
+pub(crate) fn codes_of(s: State, e: Event, after: State, returned: Returned) -> usize {
     let w = s.wait;
-    codes_first(event_row(w, e), s.page.flags, s.page.configured)
+    if sends_error(w, e) {
+        return 1;
+    }
+    codes_sent(returned, reports_on(after.page.flags))
 }
 
 // The last lines of a block, by the state that the event leaves.

@@ -2,7 +2,6 @@
 mod actions;
 mod commands;
 mod events;
-mod next;
 mod numbers;
 mod output;
 mod refused;

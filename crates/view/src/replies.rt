@@ -1,14 +1,11 @@
 // Replies in hex, and the device codes among them by name.
-use crate::commands::selected;
 use crate::text::green;
 use crate::text::no_color;
 use crate::text::red;
 use crate::text::say;
 use crate::text::say_hex;
 use crate::text::say_words;
-
-// More than any event replies with.
-const ALL: usize = 16;
+use effects::Returned;
 
 // A device code in words, if it is one.
 fn say_meaning(code: u8) {
@@ -21,35 +18,20 @@ fn say_meaning(code: u8) {
     say(b")");
 }
 
-// Whether a row's command sends data; ERROR, which 04 sends, is a code.
-fn sends_data(row: usize) -> bool {
-    let code = names::code(row);
-    if names::extended(row) {
-        return code == 0x0F;
+// How many of an event's replies, from the first on, are codes: those that it returned, with reports on. 41 sends the code 40 with
+// reports off too.
+pub(crate) fn codes_sent(returned: Returned, reports: bool) -> usize {
+    match returned {
+        Returned::Nothing => 0,
+        Returned::One(code) => {
+            if reports | (code == codes::NO_CONFIGURATION) {
+                1
+            } else {
+                0
+            }
+        }
+        Returned::Two(_, _) => { if reports { 2 } else { 0 } }
     }
-    match code {
-        0x06 | 0x0C | 0x0E | 0x10 | 0x12 | 0x14 | 0x16..=0x1B | 0x1E => true,
-        0x23 | 0x24 | 0x27 => true,
-        0x41 | 0x43 | 0x45 | 0x49..=0x4B => true,
-        0x62 | 0x64 | 0x66 => true,
-        _ => false,
-    }
-}
-
-// How many of an event's replies are codes: these come first. 41 and 4B return a code where SPI is not configured, and the
-// exchange of 4B returns one, sent with reports on, before its data.
-pub(crate) fn codes_first(row: usize, flags: u8, configured: bool) -> usize {
-    let code = names::code(row);
-    if !selected(row, flags) | !sends_data(row) {
-        return ALL;
-    }
-    if ((code == 0x41) | (code == 0x4B)) & !configured {
-        return ALL;
-    }
-    if (code == 0x4B) & (flags / 8 % 2 == 1) {
-        return 1;
-    }
-    0
 }
 
 fn say_reply(byte: u8, is_code: bool) {

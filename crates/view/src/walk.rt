@@ -8,8 +8,6 @@ use crate::commands::say_wait;
 use crate::events::codes_of;
 use crate::events::say_head;
 use crate::events::say_left;
-use crate::next::Next;
-use crate::next::next_step;
 use crate::output::ACTIONS;
 use crate::output::Part;
 use crate::output::REPLIES;
@@ -21,10 +19,14 @@ use crate::refused::say_refusal;
 use crate::text::finish;
 use crate::text::say;
 use crate::text::say_count;
+use effects::Returned;
+use records::contents::event_of;
 use refusals::Refusal;
 use refusals::number;
 use registers::Event;
 use registers::Wait;
+use session::next::Next;
+use session::next::next_at;
 use session::replay::Cursor;
 use session::replay::MOST_OUTPUT;
 use std::num::wrapping_add_usize;
@@ -81,26 +83,36 @@ fn show_event(
     place: usize,
     c: Cursor,
     next: Cursor,
+    returned: Returned,
     session: &[u8],
     out: &[u8],
     t: Shown,
 ) -> Shown {
     let s = c.bridge.state;
+    let after = next.bridge.state;
     say_head(color, place, s, e);
-    let codes = codes_of(s, e);
+    let codes = codes_of(s, e, after, returned);
     let first = say_part(color, out, 0, session, c.sample, codes);
     let second = say_part(color, out, first.end, session, c.sample, codes);
-    let after = next.bridge.state;
     say_left(color, after);
     count(t, first, second)
 }
 
+// The event whose byte stands at a place of the session.
+fn event_at(session: &[u8], fault: bool, place: usize) -> Event {
+    event_of(fault, wire::byte_at(session, place))
+}
+
 // The event that too few samples are left for.
 fn show_untaken(color: bool, c: Cursor, session: &[u8]) {
-    let next = next_step(session, c.at, c.end);
+    let next = next_at(session, c.at, c.end);
     let s = c.bridge.state;
-    if let Next::Event { event, place } = next {
-        say_head(color, place, s, event);
+    if let Next::Event {
+        fault,
+        start,
+        end: _,
+    } = next {
+        say_head(color, start, s, event_at(session, fault, start));
         say(b"\n    ");
     }
 }
@@ -116,22 +128,39 @@ fn show_refusal(color: bool, r: Refused, c: Cursor, session: &[u8], t: Shown) {
 }
 
 // What a step from a cursor to the next wrote.
-fn show_step(color: bool, c: Cursor, next: Cursor, session: &[u8], out: &[u8], t: Shown) -> Shown {
+fn show_step(
+    color: bool,
+    c: Cursor,
+    next: Cursor,
+    returned: Returned,
+    session: &[u8],
+    out: &[u8],
+    t: Shown,
+) -> Shown {
     let r = refusal_in(out);
     if r.number != 0 {
         show_refusal(color, r, c, session, t);
         return t;
     }
-    let made = next_step(session, c.at, c.end);
+    let made = next_at(session, c.at, c.end);
     let s = c.bridge.state;
     let w = s.wait;
     match made {
-        Next::Event { event, place } => show_event(color, event, place, c, next, session, out, t),
-        Next::Nothing => t,
+        Next::Event {
+            fault,
+            start,
+            end: _,
+        } => {
+            let e = event_at(session, fault, start);
+            show_event(color, e, start, c, next, returned, session, out, t)
+        }
+        Next::Empty { start: _, end: _ } => t,
+        Next::Samples { start: _, end: _ } => t,
         Next::End => {
             say_end(t, w);
             t
         }
+        Next::Refused { why: _, place: _ } => t,
     }
 }
 

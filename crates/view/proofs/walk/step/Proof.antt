@@ -11,7 +11,7 @@ step-spec =
     (tie.spec
     (λ c κs. search needs)
     (λ c. search needs)
-    (λ c. simp length-take (omega (arith, c .before .before .before .before .advance .ensures .made .within)))
+    (λ c. simp length-take (omega (arith, c .before .before .before .before .before .advance .ensures .ran .made .within)))
     (λ c κs. search needs)
     (λ c. search needs)
-    (λ c. c .before .before .before .before .before .advance .ensures .further (omega arith) (c .before .before .before .before .before .before .before .before .before .before .before .pre)))
+    (λ c. c .before .before .before .before .before .before .advance .ensures .ran .further (omega arith) (c .before .before .before .before .before .before .before .before .before .before .before .before .pre)))
