@@ -4,8 +4,9 @@ use lib.ListN.{set}
 use Rattle.registers.specs.Registers.{withRegister, withFlags, withError, withPage, withShared, withSize, withTimings, configuredAs, waiting, holding, settled}
 use Rattle.registers.specs.declared.State.{State}
 use Rattle.registers.specs.declared.PortRegister.the-variants as r
+use Rattle.settings.specs.Images.{imageOf}
 use Rattle.commands.specs.Plans.{Plan, plan}
-use Rattle.commands.specs.Common.{resetPage, reinited, imageOf, withEprom}
+use Rattle.commands.specs.Common.{resetPage, reinited, withEprom}
 use Rattle.commands.specs.Events.{counted, loadedState}
 pub use Rattle.commands.specs.declared.Change.{Change}
 pub use Rattle.commands.specs.declared.Change.the-variants as c

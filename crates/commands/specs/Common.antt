@@ -5,7 +5,7 @@ use mathlib.Core.Bool.{Bool, true, false, cond}
 use mathlib.Core.List.{List, [], _∷_}
 use Rattle.codes.specs.Tables.{Entry, _is_, lookup}
 use Rattle.wire.specs.Action.{waitCycles, cs, ss, portB, portC, portD}
-use Rattle.registers.specs.Registers.{spiSelected, registerOf, withRegister, withFlags, withError, withPage, withShared}
+use Rattle.registers.specs.Registers.{registerOf, withRegister, withFlags, withError, withPage, withShared}
 use Rattle.registers.specs.Protected.{bit}
 use Rattle.registers.specs.declared.Page.{Page}
 use Rattle.registers.specs.declared.Shared.{Shared}
@@ -13,6 +13,7 @@ use Rattle.registers.specs.declared.State.{State}
 use Rattle.registers.specs.declared.PortRegister.the-variants as r
 use Rattle.registers.specs.declared.Operand.the-variants as o
 use Rattle.registers.specs.declared.Wait.the-variants as v
+use Rattle.settings.specs.Images.{imageOf}
 use Rattle.signals.specs.declared.Waveform.the-variants as w
 use Rattle.commands.specs.Plans.{Plan, Sends, SendsSample, SendsEprom, SendsSerial, plan, returns, sends, performs, awaits}
 pub use Rattle.commands.specs.declared.Bit.{Bit}
@@ -77,19 +78,7 @@ reinited p f = record { flags = f; error = p .error; ddrb = 0; portb = 0; ddrc =
 abbrev pub chosenPage : Page → ℕ → Page
 chosenPage p flag = reinited p (keptFlags (p .flags) + flag)
 
--- 05: "COMMON_FLAGS, DDRB, PORTB, DDRC, PORTC, DDRD, PORTD (order H), then CONFIG_SPI, PAKET_SIZE and 08 or 00 for configured, or
--- FF FF FF if SPI isn't selected"
-abbrev pub imageTail : ℕ → ℕ → ℕ
-imageTail flags x = cond (spiSelected flags) x 0xFF
-
-abbrev pub imageMark : Bool → ℕ
-imageMark configured = cond configured 0x08 0x00
-
-abbrev pub imageOf : Page → List ℕ
-imageOf p =
-    p .flags ∷ p .ddrb ∷ p .portb ∷ p .ddrc ∷ p .portc ∷ p .ddrd ∷ p .portd
-    ∷ imageTail (p .flags) (p .config) ∷ imageTail (p .flags) (p .size) ∷ imageTail (p .flags) (imageMark (p .configured)) ∷ []
-
+-- 05: "stores ten bytes", the image of the page
 abbrev pub withEprom : Shared → List ℕ → Shared
 withEprom h image = record { eprom = image; cycles = h .cycles; version = h .version; serial = h .serial }
 

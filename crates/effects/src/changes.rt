@@ -5,7 +5,6 @@ ghost use lib.ListN.{set};
 ghost use Rattle.packet.specs.Packet.{width};
 ghost use Rattle.registers.specs.Registers.{holding, settled};
 ghost use Rattle.commands.specs.Changes.{changed};
-use crate::image::image;
 use commands::Change;
 use registers::Page;
 use registers::PortRegister;
@@ -51,7 +50,7 @@ fn save(mut s: State) -> State
     ensures { λ t. ⌜ t ≡ changed s Change.Save ⌝ }
 {
     let p = s.page;
-    let bytes = image(p);
+    let bytes = settings::image(p);
     let mut h = s.shared;
     h.eprom = bytes;
     s.shared = h;

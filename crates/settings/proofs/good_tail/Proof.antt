@@ -1,6 +1,6 @@
 -- With SPI and without.
-use Rattle.switch_on.proofs.images.good_tail.Statement.{statement}
-use Rattle.switch_on.proofs.images.good_tail.Tie as tie
+use Rattle.settings.proofs.good_tail.Statement.{statement}
+use Rattle.settings.proofs.good_tail.Tie as tie
 
 pub good-tail-spec : {M : Type 1} → statement M
 good-tail-spec =

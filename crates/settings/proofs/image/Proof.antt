@@ -1,7 +1,7 @@
 -- Byte by byte.
 use borrow.Author.Needs.{needs}
-use Rattle.effects.proofs.image.image.Statement.{statement}
-use Rattle.effects.proofs.image.image.Tie as tie
+use Rattle.settings.proofs.image.Statement.{statement}
+use Rattle.settings.proofs.image.Tie as tie
 
 pub image-spec : {M : Type 1} → statement M
 image-spec =

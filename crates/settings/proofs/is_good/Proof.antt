@@ -1,9 +1,9 @@
 -- Without ten bytes not good; else the registers and the tail.
 use borrow.Author.Needs.{needs}
 use borrow.Author.Tests.{eq-eqb, ne-eqb}
-use Rattle.switch_on.specs.Images.{isGood}
-use Rattle.switch_on.proofs.images.is_good.Statement.{statement}
-use Rattle.switch_on.proofs.images.is_good.Tie as tie
+use Rattle.settings.specs.Images.{isGood}
+use Rattle.settings.proofs.is_good.Statement.{statement}
+use Rattle.settings.proofs.is_good.Tie as tie
 
 pub is-good-spec : {M : Type 1} → statement M
 unfolding isGood
@@ -17,8 +17,9 @@ is-good-spec =
     (λ c. search needs)
     (λ c. search needs)
     (λ c κs. search needs)
+    (λ c κs. search needs)
     (λ c. search needs)
     (λ c. search needs)
     (λ c. search needs)
     (λ c κs. search needs)
-    (λ c. rw (eq-eqb _ _ (c .before .before .before .before .before .before .before .before .before .before .if1 .left), ← c .good-tail .ensures, ← c .before .before .before .before .good-registers .ensures)))
+    (λ c. rw (eq-eqb _ _ (c .before .before .before .before .before .before .before .before .before .before .before .if1 .left), ← c .before .before .before .before .spi-selected .ensures, ← c .good-tail .ensures, ← c .before .before .before .before .before .good-registers .ensures)))

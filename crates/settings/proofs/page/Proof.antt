@@ -1,7 +1,7 @@
 -- Register by register.
 use borrow.Author.Needs.{needs}
-use Rattle.switch_on.proofs.images.page.Statement.{statement}
-use Rattle.switch_on.proofs.images.page.Tie as tie
+use Rattle.settings.proofs.page.Statement.{statement}
+use Rattle.settings.proofs.page.Tie as tie
 
 pub page-spec : {M : Type 1} → statement M
 page-spec =
