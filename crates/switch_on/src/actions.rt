@@ -9,17 +9,22 @@ use registers::Page;
 use registers::parts::i2c_selected;
 use registers::parts::spi_selected;
 
+// How many bytes the six actions of the ports are, and those with one for CS or SS.
+const PORTS: usize = 6 * wire::ACTION_BYTES;
+
+pub(crate) const MOST: usize = 7 * wire::ACTION_BYTES;
+
 // How many bytes the actions are.
 pub(crate) fn size(page: Page) -> usize
     ensures { λ n. ⌜ n ≡ length (bytesOf (onActions page)) ⌝ }
 {
     if i2c_selected(page.flags) {
-        return 28;
+        return MOST;
     }
     if spi_selected(page.flags) {
-        return 28;
+        return MOST;
     }
-    24
+    PORTS
 }
 
 // Writes CS or SS high, or nothing, at the start of the unused part of a lent buffer, for which the caller shows the room.

@@ -22,9 +22,6 @@ pub struct Device {
     pub serial: [u8; registers::SERIAL],
 }
 
-// The most actions of switch-on: six for the ports, and one for CS or SS.
-const MOST_ACTIONS: usize = 7;
-
 // Whether the bridge is on.
 pub enum Outcome {
     On,
@@ -155,7 +152,7 @@ pub fn switch_on<'a>(
 fn from_factory(factory: &[u8], device: Device) -> Bridge
     ensures { λ b. ⌜ b ≡ switchOf [] (now (factory .entry)) device (zeros 28) 0 .answer .bridge ⌝ }
 {
-    let mut actions = [0u8; MOST_ACTIONS * wire::ACTION_BYTES];
+    let mut actions = [0u8; actions::MOST];
     let r = switch_on(&factory[..0], factory, device, &mut actions, 0);
     r.bridge
 }
