@@ -9,7 +9,7 @@ use lib.ListN.{getD}
 use Rattle.packet.specs.Packet.{width}
 use Rattle.registers.specs.Registers.{spiSelected}
 use Rattle.registers.specs.declared.Page.{Page}
-use Rattle.settings.specs.Images.{imageMark, imageOf, goodTail, isGood, spiByte}
+use Rattle.settings.specs.Images.{imageMark, goodTail, isGood, spiByte}
 use Rattle.settings.specs.Saved.{ImageGood, PageBack, ImageBack}
 use Rattle.settings.proofs.Good.{image-listed, good-size, good-registers, good-tail, tail-range, tail-back, registers-range}
 

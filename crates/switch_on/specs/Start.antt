@@ -21,6 +21,6 @@ FactoryStart = onState [] factoryImage factoryDevice ≡ factoryState
 abbrev pub starting : Bridge
 starting = record { state = onState [] factoryImage factoryDevice }
 
--- THEOREM (proofs/Start.antt, `factory-context`): its context is the one that the grammar calls factory
+-- THEOREM (proofs/Start.antt, `factory-context`): its context is the grammar's factory context
 abbrev pub FactoryContext : Type 0
 FactoryContext = contextOf (starting .state) ≡ grammar.factoryContext
