@@ -17,6 +17,16 @@ use Rattle.settings.proofs.Good.{good-size}
 use Rattle.switch_on.specs.SwitchOn.{Device, SwitchedOn, On, usedOf, epromOf, stateOf, onActions, switched, refusal, reasonFor, isOn, onPage, actionsFit, switchOf, settingsOf}
 
 module _ (stored factory : List ℕ) where
+  -- g says whether the stored image is good, and a whether it sets AUTOLOAD_EN
+  module _ {g a : Bool} (eg : g ≡ isGood stored) (ea : a ≡ autoloadOn (getD stored 0 0)) where
+    pub used-stored : g && a ≡ true → stored ≡ usedOf stored factory
+    unfolding usedOf
+    used-stored h = rw (← eg, ← ea, h)
+
+    pub used-factory : g && a ≡ false → factory ≡ usedOf stored factory
+    unfolding usedOf
+    used-factory h = rw (← eg, ← ea, h)
+
   module _ (size mark : ℕ) where
     -- the page is the used image's, and so many are the bytes of its actions
     module _ {p : Page} (ep : p ≡ onPage stored factory) {n : ℕ} (en : n ≡ length (bytesOf (onActions p))) where
