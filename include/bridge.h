@@ -1,10 +1,10 @@
-/* The bench bridge, for C and for whatever links C. Every function here is proved to give what its comment says, for any
+/* The bridge, for C and for whatever links C. Every function here is proved to give what its comment says, for any
  * arguments: nothing is asked of the caller but that each pointer is good for its length and that no pointer which a call writes
- * through overlaps another of its pointers. Numbers of refusals are those of the house's paper, the lowest that applies; 0 says
+ * through overlaps another of its pointers. Numbers of refusals are those of document 01, the lowest that applies; 0 says
  * that a call was taken. A refused call changes no byte behind any pointer, but for the counts, which are 0, and where a comment
  * says otherwise.
  *
- * THE STATE IMAGE is BRIDGE_STATE_SIZE bytes:
+ * A STATE is BRIDGE_STATE_SIZE bytes:
  *
  *   at  bytes  what
  *    0    1    COMMON_FLAGS
@@ -48,13 +48,13 @@ extern "C" {
 #define BRIDGE_OPEN 1
 #define BRIDGE_WRONG 2
 
-/* The state that every session starts with goes to the image. 1 if it has another length. */
+/* The state that every session starts with goes to `state`. 1 if this has another length. */
 uint8_t bridge_factory_start(uint8_t *state, size_t state_size);
 
 /* One event: a received byte (kind BRIDGE_BYTE, the byte), or a line fault (BRIDGE_FAULT, 81 frame, 82 overrun, 83 parity, hex).
  * Samples are used from the mark `sampled` on; actions (four bytes each) and reply bytes are written from the marks `acted` and
- * `replied` on, in bytes. Taken, the new state is in the image, and the counts say how many samples were used, reply bytes and
- * actions written. Refused with 1 to 4 as in the paper, 8 for another kind, 9 for another fault. */
+ * `replied` on, in bytes. Taken, the new state is in `state`, and the counts say how many samples were used, reply bytes and
+ * actions written. Refused with 1 to 4 as in document 01, 8 for another kind, 9 for another fault. */
 uint8_t bridge_step(uint8_t *state, size_t state_size, uint8_t kind, uint8_t value,
                     const uint8_t *samples, size_t samples_size, size_t sampled,
                     uint8_t *actions, size_t actions_size, size_t acted,
@@ -66,8 +66,8 @@ uint8_t bridge_step(uint8_t *state, size_t state_size, uint8_t kind, uint8_t val
 uint8_t bridge_judge(const uint8_t *state, size_t state_size, const uint8_t *bytes, size_t bytes_size,
                      uint8_t *verdict, size_t *place);
 
-/* Switches on from two images of settings: the state goes to the image, the actions to the buffer from the mark on. Refused with 11
- * if the factory image is not good, 3 if the actions do not fit; the state is then all zero. 1 if the image has another length. */
+/* Switches on from two images of settings: the state goes to `state`, the actions to the buffer from the mark on. Refused with 11
+ * if the factory image is not good, 3 if the actions do not fit; the state is then all zero. 1 if `state` has another length. */
 uint8_t bridge_switch_on(const uint8_t *stored, size_t stored_size, const uint8_t *factory, size_t factory_size,
                          uint8_t iog_count, uint8_t version, uint32_t serial,
                          uint8_t *state, size_t state_size,
@@ -75,7 +75,7 @@ uint8_t bridge_switch_on(const uint8_t *stored, size_t stored_size, const uint8_
 
 /* Replays a session as far as surely fits into the output, and says how many bytes were written. The cursor is the state and five
  * numbers, at first the factory start and zeros; it is changed to where to go on, and the replay is over when `done` is not 0.
- * With BRIDGE_REPLAY_ROOM bytes of output a call always gets further. 1 if the image is no state; a state that breaks its ranges,
+ * With BRIDGE_REPLAY_ROOM bytes of output a call always gets further. 1 if `state` is no state; a state that breaks its ranges,
  * which no session comes to, ends the replay at the next event with a record of refusal 1. */
 #define BRIDGE_REPLAY_ROOM 1046
 uint8_t bridge_replay(uint8_t *state, size_t state_size, size_t *at, size_t *end, size_t *sample, size_t *sampled, uint8_t *done,

@@ -9,26 +9,26 @@ use Rattle.wire.specs.Action.{bytesOf, dq}
 use Rattle.lines.specs.Lines.{low, released, sampled, waits}
 use Rattle.packet.specs.Register.{zeros}
 use Rattle.packet.specs.Packet.{registerBytes}
+use Rattle.registers.specs.Registers.{serialBytes, heldBytes}
 use Rattle.registers.specs.declared.State.{State}
 use Rattle.registers.specs.declared.Event.the-variants as e
 use Rattle.registers.specs.declared.Wait.the-variants as v
-use Rattle.one_wire_bus.specs.OneWire.{defaultTimings}
+use Rattle.settings.specs.Images.{pageOf, factoryImage}
 use Rattle.grammar.specs.declared.Verdict.the-variants.{Whole, Open, Wrong}
 use Rattle.bridge.specs.Answering.{Bridge, Lent, lent, Given, answerOf}
 use Rattle.bridge.specs.Judging.{Judged, judgementOf}
 
--- "Start is factory, 00 seven times and FF three, IOG count FF, version and serial 0"; "ERROR and the packet register start at 0,
--- timings at their defaults, no wait"; without SPI "configuration 0, N 1, unconfigured"
-abbrev pub factory : State
-factory = record {
-  page = record { flags = 0; error = 0; ddrb = 0; portb = 0; ddrc = 0; portc = 0; ddrd = 0; portd = 0; config = 0; configured = false; size = 0; packet = zeros registerBytes; timings = defaultTimings };
-  shared = record { eprom = 0x00 ∷ 0x00 ∷ 0x00 ∷ 0x00 ∷ 0x00 ∷ 0x00 ∷ 0x00 ∷ 0xFF ∷ 0xFF ∷ 0xFF ∷ []; cycles = 0xFF; version = 0; serial = zeros 4 };
+-- "Start is factory, 00 seven times and FF three, IOG count FF, version and serial 0"; "no wait"
+abbrev pub factoryState : State
+factoryState = record {
+  page = pageOf factoryImage;
+  shared = record { eprom = factoryImage; cycles = 0xFF; version = 0; serial = zeros serialBytes };
   wait = v.Nothing;
-  held = zeros 9;
+  held = zeros heldBytes;
 }
 
 abbrev pub start : Bridge
-start = record { state = factory }
+start = record { state = factoryState }
 
 -- samples and room that suffice for each of these calls
 abbrev pub sufficient : Lent

@@ -1,10 +1,10 @@
-// A case of the judge: the image of the start (include/bridge.h), and the bytes.
+// A case of the judge: the bytes of the start state (include/bridge.h), and those to judge.
 use crate::text::say;
 use crate::text::say_refused;
 use bridge::Bridge;
 use bridge::Judgement;
 use grammar::Verdict;
-use image::decoding;
+use state_bytes::decoding;
 
 fn show_verdict(v: Verdict) {
     let mut line = [0u8; verdicts::ROOM];

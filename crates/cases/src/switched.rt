@@ -4,9 +4,9 @@ use crate::text::say;
 use crate::text::say_bytes;
 use crate::text::say_number;
 use crate::text::say_refused;
-use image::decoding;
-use image::encoding;
 use registers::State;
+use state_bytes::decoding;
+use state_bytes::encoding;
 use switch_on::Device;
 use switch_on::Outcome;
 
@@ -26,9 +26,9 @@ fn show_outcome(o: Outcome) {
 }
 
 fn show_state(s: State) {
-    let mut image = [0u8; decoding::SIZE];
-    encoding::store(&mut image, s);
-    say_bytes(b", state ", &image);
+    let mut bytes = [0u8; decoding::SIZE];
+    encoding::store(&mut bytes, s);
+    say_bytes(b", state ", &bytes);
 }
 
 fn show_switched<'a>(
@@ -87,7 +87,7 @@ fn show_images(images: &[u8], stored: usize, device: Device, room: usize, mark: 
     );
 }
 
-// The outcome, how many actions were written, the whole buffer, the state's image and the settings used.
+// The outcome, how many actions were written, the whole buffer, the state's bytes and the settings used.
 pub(crate) fn show(case: &[u8]) {
     if case.len() < HEAD {
         say(b"no images\n");

@@ -1,13 +1,14 @@
 -- What each change means (01, "Registers and common commands", "SPI", "1-Wire"): the state after it, but for what depends on samples.
 use Prim.Native.Nat.{ℕ, _*_, _/_, _%_}
-use mathlib.Core.Bool.{Bool, false, cond}
-use mathlib.Core.List.{List, [], _∷_}
+use mathlib.Core.Bool.{false}
+use mathlib.Core.List.{List}
 use Rattle.packet.specs.Packet.{width, loaded}
-use Rattle.registers.specs.Registers.{spiSelected, highFirst, bitsIn, withRegister, withFlags, withError, withPage, withShared, withSize, withPacket, withTimings, configuredAs, waiting, holding, ended, heldWith, timingsIn}
+use Rattle.registers.specs.Registers.{highFirst, bitsIn, withRegister, withFlags, withError, withPage, withShared, withSize, withPacket, withTimings, configuredAs, waiting, holding, ended, heldWith, timingsIn}
 use Rattle.registers.specs.declared.Page.{Page}
 use Rattle.registers.specs.declared.Shared.{Shared}
 use Rattle.registers.specs.declared.State.{State}
 use Rattle.registers.specs.declared.PortRegister.the-variants as r
+use Rattle.settings.specs.Images.{imageOf}
 use Rattle.commands.specs.Decisions.{Change}
 use Rattle.commands.specs.declared.Change.the-variants as c
 
@@ -24,19 +25,7 @@ resetPage p = record { flags = keptFlags (p .flags); error = 0; ddrb = 0; portb 
 abbrev pub reinited : Page → ℕ → Page
 reinited p f = record { flags = f; error = p .error; ddrb = 0; portb = 0; ddrc = 0; portc = 0; ddrd = 0; portd = 0; config = p .config; configured = p .configured; size = p .size; packet = p .packet; timings = p .timings }
 
--- 05: "COMMON_FLAGS, DDRB, PORTB, DDRC, PORTC, DDRD, PORTD (order H), then CONFIG_SPI, PAKET_SIZE and 08 or 00 for configured, or
--- FF FF FF if SPI isn't selected"
-abbrev pub imageTail : ℕ → ℕ → ℕ
-imageTail flags x = cond (spiSelected flags) x 0xFF
-
-abbrev pub imageMark : Bool → ℕ
-imageMark configured = cond configured 0x08 0x00
-
-abbrev pub imageOf : Page → List ℕ
-imageOf p =
-    p .flags ∷ p .ddrb ∷ p .portb ∷ p .ddrc ∷ p .portc ∷ p .ddrd ∷ p .portd
-    ∷ imageTail (p .flags) (p .config) ∷ imageTail (p .flags) (p .size) ∷ imageTail (p .flags) (imageMark (p .configured)) ∷ []
-
+-- 05: the EPROM holds the image of the page
 abbrev pub withEprom : Shared → List ℕ → Shared
 withEprom h image = record { eprom = image; cycles = h .cycles; version = h .version; serial = h .serial }
 

@@ -6,42 +6,16 @@ use bridge::Outcome;
 use bridge::Stepped;
 use registers::Event;
 use registers::Fault;
-use registers::Page;
-use registers::Shared;
-use registers::State;
-use registers::Wait;
 
 // The factory start of a session, but for a version and a serial number whose bytes can be told apart.
 fn start() -> Bridge {
-    let page = Page {
-        flags: 0,
-        error: 0,
-        ddrb: 0,
-        portb: 0,
-        ddrc: 0,
-        portc: 0,
-        ddrd: 0,
-        portd: 0,
-        config: 0,
-        configured: false,
-        size: 0,
-        packet: [0; packet::BYTES],
-        timings: [0x86, 0xC4, 0xCC, 0xBC, 0xBF, 0xF9, 0xBC, 0xBF, 0xC7],
-    };
-    let shared = Shared {
-        eprom: [0, 0, 0, 0, 0, 0, 0, 0xFF, 0xFF, 0xFF],
-        cycles: 0xFF,
-        version: 0x12,
-        serial: [0xA1, 0xB2, 0xC3, 0xD4],
-    };
-    Bridge {
-        state: State {
-            page,
-            shared,
-            wait: Wait::Nothing,
-            held: [0; registers::HELD],
-        },
-    }
+    let b = switch_on::factory_start();
+    let mut s = b.state;
+    let mut shared = s.shared;
+    shared.version = 0x12;
+    shared.serial = [0xA1, 0xB2, 0xC3, 0xD4];
+    s.shared = shared;
+    Bridge { state: s }
 }
 
 fn fault(code: u8) -> Fault {

@@ -4,7 +4,6 @@ ghost use Prim.Native.Nat.{_<_};
 ghost use Rattle.packet.specs.Packet.{width};
 ghost use Rattle.registers.specs.Registers.{withPage, ended};
 ghost use Rattle.commands.specs.Changes.{changed};
-use crate::image::image;
 use commands::Change;
 use registers::Page;
 use registers::PortRegister;
@@ -56,7 +55,7 @@ fn save(mut s: State) -> State
     ensures { λ t. ⌜ t ≡ changed s Change.Save ⌝ }
 {
     let p = s.page;
-    let bytes = image(p);
+    let bytes = settings::image(p);
     let mut h = s.shared;
     h.eprom = bytes;
     s.shared = h;

@@ -1,6 +1,5 @@
 // The effects of a decision: its change made to the state, and its answer left in ERROR and sent.
 pub mod changes;
-mod image;
 pub mod replies;
 pub mod returning;
 pub mod sending;

@@ -1,27 +1,27 @@
-// What C gets: the number of an answer, and the state that then goes to the image.
+// What C gets: the number of an answer, and the new state.
 ghost use mathlib.Core.Path.{_≡_};
 ghost use lib.ListN.{length};
-ghost use Rattle.image.specs.Image.{imageSize};
-ghost use Rattle.export.specs.Calls.{outcomeNumber, imageAfter, verdictNumber, placeOf, switchNumber};
+ghost use Rattle.state_bytes.specs.StateBytes.{stateSize};
+ghost use Rattle.export.specs.Exported.{outcomeNumber, stateAfter, verdictNumber, placeOf, switchNumber};
 use bridge::Outcome;
 use bridge::Stepped;
 use grammar::Verdict;
-use image::encoding;
+use state_bytes::encoding;
 
 // The number of a call that was taken.
 pub(crate) const TAKEN: u8 = 0;
 
-// The number of an answer; the new state of a call that was taken goes to the image.
-pub(crate) fn finish(image: &mut [u8], x: Stepped) -> u8
-    requires { ⌜ length (now image) ≡ imageSize ⌝ }
-    ensures { λ r. ⌜ (r ≡ outcomeNumber (x .outcome)) × (now (image .exit) ≡ imageAfter (x .outcome) (x .bridge .state) (now (image .entry))) ⌝ }
+// The number of an answer; the new state of a call that was taken goes to `state`.
+pub(crate) fn finish(state: &mut [u8], x: Stepped) -> u8
+    requires { ⌜ length (now state) ≡ stateSize ⌝ }
+    ensures { λ r. ⌜ (r ≡ outcomeNumber (x .outcome)) × (now (state .exit) ≡ stateAfter (x .outcome) (x .bridge .state) (now (state .entry))) ⌝ }
 {
     let o = x.outcome;
     match o {
         Outcome::Taken => {
             let b = x.bridge;
             let s = b.state;
-            encoding::store(image, s);
+            encoding::store(state, s);
             TAKEN
         }
         Outcome::Refused(why) => refusals::number(why),

@@ -1,16 +1,16 @@
 // What C hands over as numbers: an event, a device, a cursor.
 ghost use mathlib.Core.Path.{_≡_};
 ghost use lib.ListN.{length};
-ghost use Rattle.image.specs.Image.{imageSize};
-ghost use Rattle.export.specs.Calls.{faultAsked, eventAsked, withoutEvent, deviceOf};
-ghost use Rattle.export.specs.Replaying.{behind, cursorIn};
+ghost use Rattle.state_bytes.specs.StateBytes.{stateSize};
+ghost use Rattle.export.specs.Exported.{faultAsked, eventAsked, withoutEvent, deviceOf};
+ghost use Rattle.export.specs.Replaying.{cCursor, cursorOf};
 use bridge::Bridge;
-use image::decoding;
 use refusals::Refusal;
 use registers::Event;
 use registers::Fault;
 use registers::State;
 use session::replay::Cursor;
+use state_bytes::decoding;
 use switch_on::Device;
 
 // An event, or why there is none.
@@ -92,21 +92,21 @@ pub(crate) fn device(cycles: u8, version: u8, serial: u32) -> Device
     }
 }
 
-// A replay's cursor; it is done with any mark but 0. The caller shows that the image has an image's size.
+// A replay's cursor; it is done with any mark but 0. The caller shows that `state` has a state's size.
 pub(crate) fn cursor_of(
-    image: &[u8],
+    state: &[u8],
     at: usize,
     end: usize,
     sample: usize,
     sampled: usize,
     done: u8,
 ) -> Cursor
-    requires { ⌜ length (now image) ≡ imageSize ⌝ }
-    ensures { λ c. ⌜ c ≡ cursorIn (behind (now (image .entry)) at end sample sampled done) ⌝ }
+    requires { ⌜ length (now state) ≡ stateSize ⌝ }
+    ensures { λ c. ⌜ c ≡ cursorOf (cCursor (now (state .entry)) at end sample sampled done) ⌝ }
 {
-    let state = decoding::state_of(image);
+    let s = decoding::state_of(state);
     Cursor {
-        bridge: Bridge { state },
+        bridge: Bridge { state: s },
         at,
         end,
         sample,

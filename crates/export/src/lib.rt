@@ -1,8 +1,8 @@
-// What C links: include/bridge.h. A state goes by its image, and every answer but the number by a pointer.
+// What C links: include/bridge.h. A state goes by its bytes, and every answer but the number by a pointer.
 ghost use mathlib.Core.Path.{_≡_};
 ghost use Rattle.bridge.specs.Answering.{lent};
-ghost use Rattle.export.specs.Calls.{startCall, startGives, stepCall, stepGives, judgeCall, judgeGives, deviceOf, switchCall, switchGives};
-ghost use Rattle.export.specs.Replaying.{behind, replayCall, Replays};
+ghost use Rattle.export.specs.Exported.{startCall, startGives, stepCall, stepGives, judgeCall, judgeGives, deviceOf, switchCall, switchGives};
+ghost use Rattle.export.specs.Replaying.{cCursor, replayCall, Replays};
 
 mod answers;
 mod arguments;
@@ -11,11 +11,11 @@ use answers::TAKEN;
 use arguments::Asked;
 use bridge::Bridge;
 use bridge::Judgement;
-use image::decoding;
-use image::encoding;
 use refusals::Refusal;
+use state_bytes::decoding;
+use state_bytes::encoding;
 
-// The state that every session starts with goes to the image.
+// The state that every session starts with goes to `state`.
 #[no_mangle]
 pub extern "C" fn bridge_factory_start(state: &mut [u8]) -> u8
     ensures { λ r. ⌜ startCall r (now (state .exit)) ≡ startGives (now (state .entry)) ⌝ }
@@ -148,7 +148,7 @@ pub extern "C" fn bridge_replay(
     output: &mut [u8],
     written: &mut usize,
 ) -> u8
-    ensures { λ r. ⌜ Replays (now (session .entry)) (behind (now (state .entry)) (now (at .entry)) (now (end .entry)) (now (sample .entry)) (now (sampled .entry)) (now (done .entry))) (now (output .entry)) (replayCall r (behind (now (state .exit)) (now (at .exit)) (now (end .exit)) (now (sample .exit)) (now (sampled .exit)) (now (done .exit))) (now (output .exit)) (now (written .exit))) ⌝ }
+    ensures { λ r. ⌜ Replays (now (session .entry)) (cCursor (now (state .entry)) (now (at .entry)) (now (end .entry)) (now (sample .entry)) (now (sampled .entry)) (now (done .entry))) (now (output .entry)) (replayCall r (cCursor (now (state .exit)) (now (at .exit)) (now (end .exit)) (now (sample .exit)) (now (sampled .exit)) (now (done .exit))) (now (output .exit)) (now (written .exit))) ⌝ }
 {
     *written = 0;
     if !decoding::is_state(state) {

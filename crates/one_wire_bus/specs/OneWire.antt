@@ -7,12 +7,8 @@ use Rattle.packet.specs.Register.{byteBits, zeros}
 use Rattle.one_wire_bus.specs.declared.Waits.{Waits}
 use Rattle.lines.specs.Lines.{released, low, sampled, waits, lowOrReleased, each}
 
--- "Timings: reset, write bit, read bit, three bytes each; defaults 86 C4 CC, BC BF F9, BC BF C7"
-abbrev pub defaultTimings : List ℕ
-defaultTimings = 0x86 ∷ 0xC4 ∷ 0xCC ∷ 0xBC ∷ 0xBF ∷ 0xF9 ∷ 0xBC ∷ 0xBF ∷ 0xC7 ∷ []
-
--- the three waits of a group, in µs: "For a group (a, b, c) the waits are b − a, c − b, 255 − c, a negative one counting 0 (H),
--- in 8 µs for the first group, 1 µs for the others"
+-- "Timings: reset, write bit, read bit, three bytes each". The three waits of a group, in µs: "For a group (a, b, c) the waits are b − a,
+-- c − b, 255 − c, a negative one counting 0 (H), in 8 µs for the first group, 1 µs for the others"
 abbrev pub groupWaits : ℕ → ℕ → ℕ → ℕ → Waits
 groupWaits unit a b c = record { first = unit * (b - a); second = unit * (c - b); third = unit * (255 - c) }
 

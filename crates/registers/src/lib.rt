@@ -9,6 +9,7 @@ pub mod ports;
 use parts::i2c_selected;
 use parts::one_wire_selected;
 use parts::packet_bytes;
+use parts::selected_count;
 use parts::spi_selected;
 
 // How many timing bytes there are: three groups of three.
@@ -148,7 +149,7 @@ fn wait_fits(w: Wait, flags: u8, configured: bool, size: u8) -> bool
 fn page_fits(p: Page) -> bool
     ensures { λ r. ⌜ r ≡ pageFits p ⌝ }
 {
-    (p.flags % 2 + p.flags / 2 % 2 + p.flags / 4 % 2 <= 1)
+    (selected_count(p.flags) <= 1)
         & (p.flags < 32)
         & (p.size < packet::WIDTH)
         & (p.config <= 7)

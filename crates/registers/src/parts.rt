@@ -2,6 +2,7 @@
 ghost use mathlib.Core.Path.{_≡_};
 ghost use Prim.Native.Nat.{_<_};
 ghost use Rattle.packet.specs.Packet.{width, packetBytes};
+ghost use Rattle.registers.specs.Ranges.{selectedCount};
 ghost use Rattle.registers.specs.Registers.{i2cSelected, spiSelected, oneWireSelected, reportsOn, autoloadOn, phaseOf, polarityOf, highFirst, bitsOf, withPage, withReceived, holding, heldWith, timingsIn};
 use crate::HELD;
 use crate::Page;
@@ -28,6 +29,13 @@ pub fn one_wire_selected(flags: u8) -> bool
     ensures { λ r. ⌜ r ≡ oneWireSelected flags ⌝ }
 {
     flags / 4 % 2 == 1
+}
+
+// How many interfaces COMMON_FLAGS select.
+pub fn selected_count(flags: u8) -> u8
+    ensures { λ n. ⌜ n ≡ selectedCount flags ⌝ }
+{
+    flags % 2 + flags / 2 % 2 + flags / 4 % 2
 }
 
 // Whether REPORTS_EN is set.

@@ -1,5 +1,4 @@
--- Settings saved and loaded again, and the laws of images.
+-- Settings saved and loaded again, the ways out of switch-on, and the factory start.
 pub mod Saved
-pub mod Image
 pub mod Ways
 pub mod Start

@@ -1,6 +1,7 @@
 -- The factory start, by computation. Assumes nothing.
 use mathlib.Core.Path.{refl}
-use Rattle.switch_on.specs.Images.{isGood, usedOf}
+use Rattle.settings.specs.Images.{isGood}
+use Rattle.switch_on.specs.SwitchOn.{usedOf}
 use Rattle.switch_on.specs.Start.{FactoryStart, FactoryContext}
 
 pub factory-start : FactoryStart

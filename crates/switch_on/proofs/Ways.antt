@@ -11,11 +11,22 @@ use Rattle.wire.proofs.Actions.{actions-count}
 use Rattle.registers.specs.declared.Page.{Page}
 use Rattle.registers.specs.declared.State.{State}
 use Rattle.refusals.specs.declared.Refusal.{Refusal}
-use Rattle.switch_on.specs.Images.{isGood, autoloadOn, usedOf}
-use Rattle.switch_on.specs.SwitchOn.{Device, SwitchedOn, On, epromOf, stateOf, onActions, switched, refusal, reasonFor, isOn, onPage, actionsFit, switchOf, settingsOf}
-use Rattle.switch_on.proofs.Image.{good-size}
+use Rattle.registers.specs.Registers.{autoloadOn, imageBytes}
+use Rattle.settings.specs.Images.{isGood}
+use Rattle.settings.proofs.Good.{good-size}
+use Rattle.switch_on.specs.SwitchOn.{Device, SwitchedOn, On, usedOf, epromOf, stateOf, onActions, switched, refusal, reasonFor, isOn, onPage, actionsFit, switchOf, settingsOf}
 
 module _ (stored factory : List ℕ) where
+  -- g says whether the stored image is good, and a whether it sets AUTOLOAD_EN
+  module _ {g a : Bool} (eg : g ≡ isGood stored) (ea : a ≡ autoloadOn (getD stored 0 0)) where
+    pub used-stored : g && a ≡ true → stored ≡ usedOf stored factory
+    unfolding usedOf
+    used-stored h = rw (← eg, ← ea, h)
+
+    pub used-factory : g && a ≡ false → factory ≡ usedOf stored factory
+    unfolding usedOf
+    used-factory h = rw (← eg, ← ea, h)
+
   module _ (size mark : ℕ) where
     -- the page is the used image's, and so many are the bytes of its actions
     module _ {p : Page} (ep : p ≡ onPage stored factory) {n : ℕ} (en : n ≡ length (bytesOf (onActions p))) where
@@ -35,26 +46,26 @@ module _ (stored factory : List ℕ) where
     some-used h k = rw (h, k)
 
     -- where there are settings, switch-on is not refused, and they are the image used
-    pub record Settled : Type 0 where
+    pub record HasSettings : Type 0 where
       pub good : isGood factory ≡ true
       pub fits : actionsFit stored factory size mark ≡ true
       pub used : settingsOf stored factory size mark ≡ usedOf stored factory
 
-    pub some-settings : {r : List ℕ} → r ≡ settingsOf stored factory size mark → (length r ≡ 0 → ⊥) → Settled
+    pub some-settings : {r : List ℕ} → r ≡ settingsOf stored factory size mark → (length r ≡ 0 → ⊥) → HasSettings
     unfolding settingsOf
     some-settings q n = go (isGood factory) refl (actionsFit stored factory size mark) refl
       where
-        go : (t : Bool) → isGood factory ≡ t → (u : Bool) → actionsFit stored factory size mark ≡ u → Settled
+        go : (t : Bool) → isGood factory ≡ t → (u : Bool) → actionsFit stored factory size mark ≡ u → HasSettings
         go true h true k = record { good = h; fits = k; used = rw (h, k) }
         go true h false k = absurd (n (ap length q ∙ rw (h, k)))
         go false h u k = absurd (n (ap length q ∙ rw h))
 
     -- a good image is not empty
-    used-size : isGood factory ≡ true → length (usedOf stored factory) ≡ 10
+    used-size : isGood factory ≡ true → length (usedOf stored factory) ≡ imageBytes
     unfolding usedOf
     used-size h = go (isGood stored) refl (autoloadOn (getD stored 0 0))
       where
-        go : (t : Bool) → isGood stored ≡ t → (u : Bool) → length (cond (t && u) stored factory) ≡ 10
+        go : (t : Bool) → isGood stored ≡ t → (u : Bool) → length (cond (t && u) stored factory) ≡ imageBytes
         go true g true = good-size stored g
         go true g false = good-size factory h
         go false g u = good-size factory h
@@ -76,7 +87,7 @@ module _ (stored factory : List ℕ) where
     unfolding switchOf
     refuse h q w = rw (h, q, w)
 
-    pub goes-on : Settled (length buffer) mark
+    pub goes-on : HasSettings (length buffer) mark
         → {p : Page} → p ≡ onPage stored factory → {n : ℕ} → n ≡ length (bytesOf (onActions p)) → {e b : List ℕ} {s : State} → e ≡ epromOf stored factory → s ≡ stateOf p e d → b ≡ overwrite buffer mark (bytesOf (onActions p))
         → switched (record { bridge = record { state = s }; outcome = On; actions = n / 4 }) b ≡ switchOf stored factory d buffer mark
     unfolding switchOf

@@ -1,4 +1,3 @@
-pub mod Images
 pub mod SwitchOn
 pub mod Saved
 pub mod Start

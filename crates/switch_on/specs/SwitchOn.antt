@@ -8,49 +8,34 @@ use Rattle.wire.specs.Action.{Action, bytesOf, cs, ss}
 use Rattle.wire.specs.Buffer.{overwrite, fitsIn}
 use Rattle.packet.specs.Register.{zeros}
 use Rattle.packet.specs.Packet.{registerBytes}
-use Rattle.registers.specs.Registers.{i2cSelected, spiSelected}
+use Rattle.registers.specs.Registers.{i2cSelected, spiSelected, autoloadOn, timingBytes, imageBytes, serialBytes, heldBytes}
 use Rattle.registers.specs.declared.Page.{Page}
 use Rattle.registers.specs.declared.State.{State}
 use Rattle.registers.specs.declared.Wait.the-variants as v
 use Rattle.lines.specs.Lines.{high, portActions}
-use Rattle.one_wire_bus.specs.OneWire.{defaultTimings}
+use Rattle.settings.specs.Images.{isGood, pageOf}
 use Rattle.refusals.specs.declared.Refusal.{Refusal}
 use Rattle.refusals.specs.declared.Refusal.the-variants.{Actions, Factory}
-use Rattle.switch_on.specs.Images.{isGood, usedOf}
 pub use Rattle.switch_on.specs.declared.Device.{Device}
 pub use Rattle.switch_on.specs.declared.Outcome.{Outcome}
 pub use Rattle.switch_on.specs.declared.Outcome.the-variants.{On, Refused}
 pub use Rattle.switch_on.specs.declared.SwitchedOn.{SwitchedOn}
 
--- the registers of an image: without SPI "configuration 0, N 1, unconfigured"; "ERROR and the packet register start at 0, timings
--- at their defaults"
-abbrev pub spiByte : List ℕ → ℕ → ℕ
-spiByte i k = cond (spiSelected (getD i 0 0)) (getD i k 0) 0
+-- the image used: "the stored, if good with AUTOLOAD_EN set, else the factory one"
+unfoldable pub usedOf : List ℕ → List ℕ → List ℕ
+usedOf stored factory = cond (isGood stored && autoloadOn (getD stored 0 0)) stored factory
 
-abbrev pub pageOf : List ℕ → Page
-pageOf i = record {
-  flags = getD i 0 0;
-  error = 0;
-  ddrb = getD i 1 0;
-  portb = getD i 2 0;
-  ddrc = getD i 3 0;
-  portc = getD i 4 0;
-  ddrd = getD i 5 0;
-  portd = getD i 6 0;
-  config = spiByte i 7;
-  configured = eqb (spiByte i 9) 0x08;
-  size = spiByte i 8;
-  packet = zeros registerBytes;
-  timings = defaultTimings;
-}
+-- the registers at switch-on are those of the image used
+abbrev pub onPage : List ℕ → List ℕ → Page
+onPage stored factory = pageOf (usedOf stored factory)
 
 -- "EPROM holds the stored image if it has ten bytes, else the factory one"
 abbrev pub epromOf : List ℕ → List ℕ → List ℕ
-epromOf stored factory = cond (eqb (length stored) 10) stored factory
+epromOf stored factory = cond (eqb (length stored) imageBytes) stored factory
 
 -- "no wait; IOG count, version and serial are given"
 abbrev pub stateOf : Page → List ℕ → Device → State
-stateOf p eprom g = record { page = p; shared = record { eprom = eprom; cycles = g .cycles; version = g .version; serial = g .serial }; wait = v.Nothing; held = zeros 9 }
+stateOf p eprom g = record { page = p; shared = record { eprom = eprom; cycles = g .cycles; version = g .version; serial = g .serial }; wait = v.Nothing; held = zeros heldBytes }
 
 -- "Actions: as reinit with the image's values, then CS or SS high."
 abbrev pub selectActions : ℕ → List Action
@@ -61,10 +46,10 @@ onActions p = portActions (p .ddrb) (p .portb) (p .ddrc) (p .portc) (p .ddrd) (p
 
 -- "switch-on's 3 and 11 give an all-zero state"
 abbrev pub zeroPage : Page
-zeroPage = record { flags = 0; error = 0; ddrb = 0; portb = 0; ddrc = 0; portc = 0; ddrd = 0; portd = 0; config = 0; configured = false; size = 0; packet = zeros registerBytes; timings = zeros 9 }
+zeroPage = record { flags = 0; error = 0; ddrb = 0; portb = 0; ddrc = 0; portc = 0; ddrd = 0; portd = 0; config = 0; configured = false; size = 0; packet = zeros registerBytes; timings = zeros timingBytes }
 
 abbrev pub zeroState : State
-zeroState = record { page = zeroPage; shared = record { eprom = zeros 10; cycles = 0; version = 0; serial = zeros 4 }; wait = v.Nothing; held = zeros 9 }
+zeroState = record { page = zeroPage; shared = record { eprom = zeros imageBytes; cycles = 0; version = 0; serial = zeros serialBytes }; wait = v.Nothing; held = zeros heldBytes }
 
 -- THE CALL: its answer, and the lent buffer after it
 pub record Switched : Type 0 where
@@ -77,9 +62,6 @@ switched x buffer = record { answer = x; buffer = buffer }
 -- "with zero counts and lent memory untouched"
 abbrev pub refusal : Refusal → SwitchedOn
 refusal why = record { bridge = record { state = zeroState }; outcome = Refused why; actions = 0 }
-
-abbrev pub onPage : List ℕ → List ℕ → Page
-onPage stored factory = pageOf (usedOf stored factory)
 
 abbrev pub onState : List ℕ → List ℕ → Device → State
 onState stored factory d = stateOf (onPage stored factory) (epromOf stored factory) d

@@ -19,11 +19,8 @@ use registers::Wait;
 pub struct Device {
     pub cycles: u8,
     pub version: u8,
-    pub serial: [u8; 4],
+    pub serial: [u8; registers::SERIAL],
 }
-
-// The most actions of switch-on: six for the ports, and one for CS or SS.
-const MOST_ACTIONS: usize = 7;
 
 // Whether the bridge is on.
 pub enum Outcome {
@@ -59,10 +56,10 @@ fn zero() -> State
             timings: [0; registers::TIMINGS],
         },
         shared: Shared {
-            eprom: [0; 10],
+            eprom: [0; registers::IMAGE],
             cycles: 0,
             version: 0,
-            serial: [0; 4],
+            serial: [0; registers::SERIAL],
         },
         wait: Wait::Nothing,
         held: [0; registers::HELD],
@@ -82,7 +79,7 @@ fn refused(why: Refusal) -> SwitchedOn
 }
 
 // The state at switch-on: nothing is waited for.
-fn state(page: Page, eprom: [u8; 10], device: Device) -> State
+fn state(page: Page, eprom: [u8; registers::IMAGE], device: Device) -> State
     ensures { λ s. ⌜ s ≡ stateOf page eprom device ⌝ }
 {
     let serial = device.serial;
@@ -105,11 +102,11 @@ fn state(page: Page, eprom: [u8; 10], device: Device) -> State
 pub fn settings<'a>(stored: &'a [u8], factory: &'a [u8], room: usize, mark: usize) -> &'a [u8]
     ensures { λ r. ⌜ now r ≡ settingsOf (now (stored .entry)) (now (factory .entry)) room mark ⌝ }
 {
-    if !images::is_good(factory) {
+    if !settings::is_good(factory) {
         return &factory[..0];
     }
     let used = images::used(stored, factory);
-    let page = images::page(used);
+    let page = settings::page(used);
     if !wire::fits(room, mark, actions::size(page)) {
         return &factory[..0];
     }
@@ -120,7 +117,7 @@ pub fn settings<'a>(stored: &'a [u8], factory: &'a [u8], room: usize, mark: usiz
 fn reason(factory: &[u8]) -> Refusal
     ensures { λ r. ⌜ r ≡ reasonFor (now (factory .entry)) ⌝ }
 {
-    if images::is_good(factory) {
+    if settings::is_good(factory) {
         return Refusal::Actions;
     }
     Refusal::Factory
@@ -140,7 +137,7 @@ pub fn switch_on<'a>(
     if used.len() == 0 {
         return refused(reason(factory));
     }
-    let page = images::page(used);
+    let page = settings::page(used);
     let eprom = images::eprom(stored, factory);
     let s = state(page, eprom, device);
     let n = actions::put(&mut buffer[mark..], page);
@@ -155,7 +152,7 @@ pub fn switch_on<'a>(
 fn from_factory(factory: &[u8], device: Device) -> Bridge
     ensures { λ b. ⌜ b ≡ switchOf [] (now (factory .entry)) device (zeros 28) 0 .answer .bridge ⌝ }
 {
-    let mut actions = [0u8; MOST_ACTIONS * wire::ACTION_BYTES];
+    let mut actions = [0u8; actions::MOST];
     let r = switch_on(&factory[..0], factory, device, &mut actions, 0);
     r.bridge
 }
@@ -167,8 +164,8 @@ pub fn factory_start() -> Bridge
     let device = Device {
         cycles: 0xFF,
         version: 0,
-        serial: [0; 4],
+        serial: [0; registers::SERIAL],
     };
-    let factory = [0, 0, 0, 0, 0, 0, 0, 0xFF, 0xFF, 0xFF];
+    let factory = settings::FACTORY_IMAGE;
     from_factory(&factory, device)
 }

@@ -1,4 +1,4 @@
--- Refused for the image's length, or the start is stored.
+-- Refused for the state's length, or the start is stored.
 use borrow.Author.Needs.{needs}
 use Rattle.export.proofs.Ways.{start-refused, started}
 use Rattle.export.proofs.bridge_factory_start.Statement.{statement}
@@ -13,4 +13,4 @@ bridge-factory-start-spec =
     (λ c κs. search needs)
     (λ c κs. search needs)
     (λ c. search needs)
-    (λ c. started (c .before .before .before .before .before .before .before .before .args .state .now) (c .before .before .before .before .before .before .if1 .left) (c .before .before .before .before .before .factory-start .ensures) (c .before .before .store .ensures .image)))
+    (λ c. started (c .before .before .before .before .before .before .before .before .args .state .now) (c .before .before .before .before .before .before .if1 .left) (c .before .before .before .before .before .factory-start .ensures) (c .before .before .store .ensures .bytes)))

@@ -2,7 +2,7 @@
 use borrow.Author.Needs.{needs}
 use borrow.Author.Tests.{not-true, not-false}
 use mathlib.Core.Path.{sym, _∙_}
-use Rattle.image.proofs.Images.{state-image}
+use Rattle.state_bytes.proofs.Back.{state-facts}
 use Rattle.export.proofs.Ways.{judge-no-state, judge-refused, judge-judged}
 use Rattle.export.proofs.bridge_judge.Statement.{statement}
 use Rattle.export.proofs.bridge_judge.Tie as tie
@@ -16,7 +16,7 @@ bridge-judge-spec =
     (λ c.
     let s = c .before .before .before .before .before in
     judge-no-state (s .args .state .now) (s .args .bytes .now) (s .args .verdict .now) (s .args .place .now) (sym (c .before .before .is-state .ensures) ∙ not-true _ (c .before .if1 .taken)) (c .number .ensures))
-    (λ c κs. state-image (c .before .before .before .before .args .state .now) (sym (c .before .is-state .ensures) ∙ not-false _ (c .if1 .left)) .size)
+    (λ c κs. state-facts (c .before .before .before .before .args .state .now) (sym (c .before .is-state .ensures) ∙ not-false _ (c .if1 .left)) .size)
     (λ c κs. search needs)
     (λ c. search needs)
     (λ c κs. search needs)

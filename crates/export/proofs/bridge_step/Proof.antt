@@ -3,7 +3,7 @@ use borrow.Author.Needs.{needs}
 use borrow.Author.Tests.{not-true, not-false}
 use mathlib.Core.Path.{sym, _∙_}
 use Rattle.bridge.specs.Answering.{lent}
-use Rattle.image.proofs.Images.{state-image}
+use Rattle.state_bytes.proofs.Back.{state-facts}
 use Rattle.export.proofs.Ways.{step-no-state, step-no-event, step-answers}
 use Rattle.export.proofs.bridge_step.Statement.{statement}
 use Rattle.export.proofs.bridge_step.Tie as tie
@@ -20,12 +20,12 @@ bridge-step-spec =
     step-no-state (s .args .state .now) (s .args .kind) (s .args .value) (lent (s .args .samples .now) (s .args .sampled) (s .args .actions .now) (s .args .acted) (s .args .replies .now) (s .args .replied)) (sym (c .before .before .is-state .ensures) ∙ not-true _ (c .before .if1 .taken)) (c .number .ensures))
     (λ c κs. search needs)
     (λ c. search needs)
-    (λ c κs. state-image (c .before .before .before .before .before .before .before .before .before .before .before .before .args .state .now) (sym (c .before .before .before .before .before .before .is-state .ensures) ∙ not-false _ (c .before .before .before .before .before .if1 .left)) .size)
+    (λ c κs. state-facts (c .before .before .before .before .before .before .before .before .before .before .before .before .args .state .now) (sym (c .before .before .before .before .before .before .is-state .ensures) ∙ not-false _ (c .before .before .before .before .before .if1 .left)) .size)
     (λ c κs. search needs)
     (λ c. search needs)
-    (λ c κs. state-image (c .before .before .before .before .before .before .before .before .before .before .before .before .args .state .now) (sym (c .before .before .before .before .before .before .is-state .ensures) ∙ not-false _ (c .before .before .before .before .before .if1 .left)) .size)
+    (λ c κs. state-facts (c .before .before .before .before .before .before .before .before .before .before .before .before .args .state .now) (sym (c .before .before .before .before .before .before .is-state .ensures) ∙ not-false _ (c .before .before .before .before .before .if1 .left)) .size)
     (λ c κs. search needs)
-    (λ c κs. state-image (c .before .before .before .before .before .before .before .before .before .before .before .before .before .before .before .before .before .before .before .before .before .args .state .now) (sym (c .before .before .before .before .before .before .before .before .before .before .before .before .before .before .before .is-state .ensures) ∙ not-false _ (c .before .before .before .before .before .before .before .before .before .before .before .before .before .before .if1 .left)) .size)
+    (λ c κs. state-facts (c .before .before .before .before .before .before .before .before .before .before .before .before .before .before .before .before .before .before .before .before .before .args .state .now) (sym (c .before .before .before .before .before .before .before .before .before .before .before .before .before .before .before .is-state .ensures) ∙ not-false _ (c .before .before .before .before .before .before .before .before .before .before .before .before .before .before .if1 .left)) .size)
     (λ c. search needs)
     (λ c.
     let s = c .before .before .before .before .before .before .before .before .before .before .before .before .before .before in

@@ -1,7 +1,7 @@
 -- By computation, the factory image being good.
 use borrow.Author.Needs.{needs}
-use Rattle.switch_on.specs.Images.{isGood, usedOf}
-use Rattle.switch_on.specs.SwitchOn.{switchOf}
+use Rattle.settings.specs.Images.{isGood}
+use Rattle.switch_on.specs.SwitchOn.{usedOf, switchOf}
 use Rattle.switch_on.proofs.factory_start.Statement.{statement}
 use Rattle.switch_on.proofs.factory_start.Tie as tie
 

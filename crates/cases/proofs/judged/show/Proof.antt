@@ -1,4 +1,4 @@
--- The front of the case has an image's size.
+-- The front of the case has a state's size.
 use borrow.Author.Needs.{needs}
 use native.Mathlib.Omega.{arith}
 use lib.ListN.{length-take}

@@ -13,5 +13,5 @@ finish-spec =
     (λ c. search needs)
     (λ c κs. search needs)
     (λ c. search needs)
-    (λ c. rw (c .before .before .before .before .before .before .enum-told .given .1) (refl, c .before .before .store .ensures .image))
+    (λ c. rw (c .before .before .before .before .before .before .enum-told .given .1) (refl, c .before .before .store .ensures .bytes))
     (λ c. rw (c .before .before .o .given .1) (c .number .ensures, refl)))

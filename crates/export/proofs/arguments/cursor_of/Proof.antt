@@ -1,4 +1,4 @@
--- The state of the image, and the numbers as they are.
+-- The state of the bytes, and the numbers as they are.
 use borrow.Author.Needs.{needs}
 use Rattle.export.proofs.arguments.cursor_of.Statement.{statement}
 use Rattle.export.proofs.arguments.cursor_of.Tie as tie

@@ -2,7 +2,7 @@
 use mathlib.Core.Path.{sym, ap}
 use Rattle.codes.proofs.Lookup.{missed}
 use Rattle.refusals.specs.declared.Refusal.the-variants.{FaultBody}
-use Rattle.export.specs.Calls.{faultTable, faultAsked}
+use Rattle.export.specs.Exported.{faultTable, faultAsked}
 use Rattle.export.specs.declared.arguments.Asked.the-variants.{Refused}
 use Rattle.export.proofs.arguments.fault.Statement.{statement}
 use Rattle.export.proofs.arguments.fault.Tie as tie

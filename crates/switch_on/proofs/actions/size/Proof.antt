@@ -1,5 +1,5 @@
 -- By the interface selected.
-use borrow.Author.Tests.{eq-eqb, ne-eqb}
+use borrow.Author.Needs.{needs}
 use Rattle.switch_on.proofs.actions.size.Statement.{statement}
 use Rattle.switch_on.proofs.actions.size.Tie as tie
 
@@ -7,6 +7,8 @@ pub size-spec : {M : Type 1} → statement M
 size-spec =
     tie.close
     (tie.spec
-    (λ c. rw (eq-eqb _ _ (c .if1 .taken)))
-    (λ c. rw (ne-eqb _ _ (c .before .before .if1 .left), eq-eqb _ _ (c .if2 .taken)))
-    (λ c. rw (ne-eqb _ _ (c .before .before .if1 .left), ne-eqb _ _ (c .if2 .left))))
+    (λ c κs. search needs)
+    (λ c. rw (← c .before .i2c-selected .ensures, c .if1 .taken))
+    (λ c κs. search needs)
+    (λ c. rw (← c .before .before .before .i2c-selected .ensures, c .before .before .if1 .left, ← c .before .spi-selected .ensures, c .if2 .taken))
+    (λ c. rw (← c .before .before .before .i2c-selected .ensures, c .before .before .if1 .left, ← c .before .spi-selected .ensures, c .if2 .left)))

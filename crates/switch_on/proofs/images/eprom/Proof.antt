@@ -1,7 +1,7 @@
 -- By whether the stored image has ten bytes.
 use borrow.Author.Needs.{needs}
 use borrow.Author.Tests.{eq-eqb, ne-eqb}
-use Rattle.switch_on.proofs.Image.{good-size}
+use Rattle.settings.proofs.Good.{good-size}
 use Rattle.switch_on.proofs.images.eprom.Statement.{statement}
 use Rattle.switch_on.proofs.images.eprom.Tie as tie
 

@@ -1,7 +1,7 @@
 -- A list of ten is its elements.
 use borrow.Author.Needs.{needs}
 use mathlib.Core.Path.{sym}
-use Rattle.switch_on.proofs.Image.{ten}
+use Rattle.settings.proofs.Good.{image-listed}
 use Rattle.switch_on.proofs.images.whole.Statement.{statement}
 use Rattle.switch_on.proofs.images.whole.Tie as tie
 
@@ -19,4 +19,4 @@ whole-spec =
     (λ c. search needs)
     (λ c. search needs)
     (λ c. search needs)
-    (λ c. sym (ten _ (c .before .before .before .before .before .before .before .before .before .before .pre))))
+    (λ c. sym (image-listed _ (c .before .before .before .before .before .before .before .before .before .before .pre))))
