@@ -9,7 +9,7 @@ use Rattle.codes.specs.Codes.{anyRejecting}
 use Rattle.grammar.specs.Grammar.{Context}
 use Rattle.grammar.specs.Scanner.{Scanner, Scanned, Accepted, Rejected, between, scan, Course, through, rejectedAt, later, resume, scanAll}
 use Rattle.grammar.specs.Verdict.{FirstWrong}
-use Rattle.grammar.specs.Calls.{Machine, Call, Taken, answered, taken, final, bytes, told, wasRejected, NoneRejected, FirstRejected, Demand3}
+use Rattle.grammar.specs.Machines.{Machine, Call, NotRefused, afterCall, notRefused, final, bytes, told, wasRejected, NoneRejected, FirstRejected, Demand3}
 use Rattle.grammar.proofs.Follows.{Agree, Follows}
 use Rattle.grammar.proofs.Divisions.{one-division}
 use Rattle.grammar.proofs.Decides.{decides, reject-code}
@@ -26,7 +26,7 @@ one-first cs k j p q = go (decLt k j) (decLt j k)
     go (no l) (no m) = omega arith
 
 module _ (M : Machine) (view : M .State → Scanner) (F : Follows M view) where
-  -- the scanner's course over the bytes taken, the codes told, and the view at the end
+  -- the scanner's course over the bytes of the calls not refused, the codes told, and the view at the end
   Traced : Course → List (List ℕ) → Scanner → Type 0
   Traced (through h) cs v = NoneRejected cs × (v ≡ h)
   Traced (rejectedAt k w) cs v = FirstRejected cs k
@@ -44,26 +44,26 @@ module _ (M : Machine) (view : M .State → Scanner) (F : Follows M view) where
       here zero h = e
       here (suc j) h = t .1 j (omega arith)
 
-  traced : (s : M .State) → M .Good s → (ks : List (Call M)) → Traced (scanAll (view s) (bytes M (taken M s ks))) (told M (taken M s ks)) (view (final M s ks))
+  traced : (s : M .State) → M .Good s → (ks : List (Call M)) → Traced (scanAll (view s) (bytes M (notRefused M s ks))) (told M (notRefused M s ks)) (view (final M s ks))
   unfolding Traced
   traced s g [] = (λ j. refl, refl)
-  traced s g (k ∷ ks) = go (M .refuses s (k .byte) (k .lent)) refl (traced (answered M s k) (F .good s (k .byte) (k .lent) (k .fits) g) ks)
+  traced s g (k ∷ ks) = go (M .refuses s (k .byte) (k .lent)) refl (traced (afterCall M s k) (F .good s (k .byte) (k .lent) (k .fits) g) ks)
     where
-      ts : List (Taken M)
-      ts = taken M (answered M s k) ks
+      ts : List (NotRefused M)
+      ts = notRefused M (afterCall M s k) ks
 
       ws : List ℕ
       ws = M .codes s (k .byte) (k .lent)
 
       v : Scanner
-      v = view (final M (answered M s k) ks)
+      v = view (final M (afterCall M s k) ks)
 
-      agree : (o : Scanned) → scan (view s) (k .byte) ≡ o → Agree o ws (view s) (view (answered M s k)) → Traced (scanAll (view (answered M s k)) (bytes M ts)) (told M ts) v
+      agree : (o : Scanned) → scan (view s) (k .byte) ≡ o → Agree o ws (view s) (view (afterCall M s k)) → Traced (scanAll (view (afterCall M s k)) (bytes M ts)) (told M ts) v
           → Traced (resume o (λ (h : Scanner). scanAll h (bytes M ts))) (ws ∷ told M ts) v
       agree (Accepted h) q a r = traced-later (scanAll h (bytes M ts)) (told M ts) ws v (a .0) (subst (λ (i : Scanner). Traced (scanAll i (bytes M ts)) (told M ts) v) (a .1) r)
       agree (Rejected w) q a r = (ap anyRejecting (a .0) ∙ ap (λ (x : Bool). x || false) (reject-code (view s) (k .byte) w q), λ j h. absurd (omega arith))
 
-      go : (r : Bool) → M .refuses s (k .byte) (k .lent) ≡ r → Traced (scanAll (view (answered M s k)) (bytes M ts)) (told M ts) v
+      go : (r : Bool) → M .refuses s (k .byte) (k .lent) ≡ r → Traced (scanAll (view (afterCall M s k)) (bytes M ts)) (told M ts) v
           → Traced (scanAll (view s) (bytes M (cond r ts (record { byte = k .byte; codes = ws } ∷ ts)))) (told M (cond r ts (record { byte = k .byte; codes = ws } ∷ ts))) v
       go true e r = subst (λ (x : M .State). Traced (scanAll (view x) (bytes M ts)) (told M ts) v) (F .kept s (k .byte) (k .lent) e) r
       go false e r = agree (scan (view s) (k .byte)) refl (F .step s (k .byte) (k .lent) (k .fits) g e) r
@@ -72,9 +72,9 @@ module _ (M : Machine) (view : M .State → Scanner) (F : Follows M view) where
   pub seen-between : (s : M .State) → M .Idle s → view s ≡ between (M .context s)
   seen-between s i = λ x. record { context = F .viewed s x; place = F .idle s .0 i x }
 
-  traced-start : (s : M .State) → M .Good s → M .Idle s → (ks : List (Call M)) → Traced (scanAll (between (M .context s)) (bytes M (taken M s ks))) (told M (taken M s ks)) (view (final M s ks))
+  traced-start : (s : M .State) → M .Good s → M .Idle s → (ks : List (Call M)) → Traced (scanAll (between (M .context s)) (bytes M (notRefused M s ks))) (told M (notRefused M s ks)) (view (final M s ks))
   traced-start s g i ks =
-      subst (λ (h : Scanner). Traced (scanAll h (bytes M (taken M s ks))) (told M (taken M s ks)) (view (final M s ks))) (seen-between s i) (traced s g ks)
+      subst (λ (h : Scanner). Traced (scanAll h (bytes M (notRefused M s ks))) (told M (notRefused M s ks)) (view (final M s ks))) (seen-between s i) (traced s g ks)
 
   pub demand-3 : (s : M .State) → M .Good s → M .Idle s → (ks : List (Call M)) → Demand3 M s ks
   unfolding Traced
@@ -84,10 +84,10 @@ module _ (M : Machine) (view : M .State → Scanner) (F : Follows M view) where
       c = M .context s
 
       bs : List ℕ
-      bs = bytes M (taken M s ks)
+      bs = bytes M (notRefused M s ks)
 
       cs : List (List ℕ)
-      cs = told M (taken M s ks)
+      cs = told M (notRefused M s ks)
 
       v : Scanner
       v = view (final M s ks)

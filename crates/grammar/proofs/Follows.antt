@@ -6,7 +6,7 @@ use mathlib.Core.List.{List, [], _∷_}
 use mathlib.Core.Logic.{_↔_}
 use Rattle.codes.specs.Codes.{anyRejecting}
 use Rattle.grammar.specs.Scanner.{Between, Scanner, Scanned, Accepted, Rejected, scan}
-use Rattle.grammar.specs.Calls.{Machine}
+use Rattle.grammar.specs.Machines.{Machine}
 
 -- what the scanner makes of a byte, the codes that the machine returns, and the views before and after
 abbrev pub Agree : Scanned → List ℕ → Scanner → Scanner → Type 0

@@ -1,11 +1,11 @@
 -- By whether the byte is accepted.
 use borrow.Author.Needs.{needs}
 use mathlib.Core.Path.{sym, _∙_}
-use Rattle.grammar.proofs.following.pass.Statement.{statement}
-use Rattle.grammar.proofs.following.pass.Tie as tie
+use Rattle.grammar.proofs.following.scanner_after.Statement.{statement}
+use Rattle.grammar.proofs.following.scanner_after.Tie as tie
 
-pub pass-spec : {M : Type 1} → statement M
-pass-spec =
+pub scanner-after-spec : {M : Type 1} → statement M
+scanner-after-spec =
     tie.close
     (tie.spec
     (λ c κs. search needs)

@@ -35,30 +35,30 @@ module _ (M : Machine) where
     pub lent : M .Lent
 
   -- the byte of a call not refused, and the codes that it returned
-  pub record Taken : Type 0 where
+  pub record NotRefused : Type 0 where
     pub byte : ℕ
     pub codes : List ℕ
 
-  abbrev pub answered : M .State → Call → M .State
-  answered s k = M .next s (k .byte) (k .lent)
+  abbrev pub afterCall : M .State → Call → M .State
+  afterCall s k = M .next s (k .byte) (k .lent)
 
-  abbrev pub taken : M .State → List Call → List Taken
-  taken s [] = []
-  taken s (k ∷ ks) =
+  abbrev pub notRefused : M .State → List Call → List NotRefused
+  notRefused s [] = []
+  notRefused s (k ∷ ks) =
       cond (M .refuses s (k .byte) (k .lent))
-      (taken (answered s k) ks)
-      (record { byte = k .byte; codes = M .codes s (k .byte) (k .lent) } ∷ taken (answered s k) ks)
+      (notRefused (afterCall s k) ks)
+      (record { byte = k .byte; codes = M .codes s (k .byte) (k .lent) } ∷ notRefused (afterCall s k) ks)
 
   -- the state after the list
   abbrev pub final : M .State → List Call → M .State
   final s [] = s
-  final s (k ∷ ks) = final (answered s k) ks
+  final s (k ∷ ks) = final (afterCall s k) ks
 
-  abbrev pub bytes : List Taken → List ℕ
-  bytes ts = map (λ (t : Taken). t .byte) ts
+  abbrev pub bytes : List NotRefused → List ℕ
+  bytes ts = map (λ (t : NotRefused). t .byte) ts
 
-  abbrev pub told : List Taken → List (List ℕ)
-  told ts = map (λ (t : Taken). t .codes) ts
+  abbrev pub told : List NotRefused → List (List ℕ)
+  told ts = map (λ (t : NotRefused). t .codes) ts
 
 -- whether the byte at a place was rejected, by the codes that each returned; past the end nothing is
 abbrev pub wasRejected : List (List ℕ) → ℕ → Bool
@@ -72,7 +72,7 @@ FirstRejected cs k = (wasRejected cs k ≡ true) × ((j : ℕ) → j < k → was
 
 -- DEMAND 3, of one list of calls from a state s (proofs/Demand3.antt, `demand-3`, of every machine that follows the scanner)
 pub record Demand3 (M : Machine) (s : M .State) (ks : List (Call M)) : Type 0 where
-  pub none-rejected : NoneRejected (told M (taken M s ks)) ↔ Continuable (M .context s) (bytes M (taken M s ks))
-  pub first-rejected : (k : ℕ) → FirstRejected (told M (taken M s ks)) k ↔ FirstWrong (M .context s) (bytes M (taken M s ks)) k
-  pub waits-for-nothing : (M .Idle (final M s ks) × NoneRejected (told M (taken M s ks))) ↔ Orderly (M .context s) (bytes M (taken M s ks))
-  pub divided-once : (p q : Division (M .context s) (bytes M (taken M s ks))) → p .0 ≡ q .0
+  pub none-rejected : NoneRejected (told M (notRefused M s ks)) ↔ Continuable (M .context s) (bytes M (notRefused M s ks))
+  pub first-rejected : (k : ℕ) → FirstRejected (told M (notRefused M s ks)) k ↔ FirstWrong (M .context s) (bytes M (notRefused M s ks)) k
+  pub waits-for-nothing : (M .Idle (final M s ks) × NoneRejected (told M (notRefused M s ks))) ↔ Orderly (M .context s) (bytes M (notRefused M s ks))
+  pub divided-once : (p q : Division (M .context s) (bytes M (notRefused M s ks))) → p .0 ≡ q .0
