@@ -1,4 +1,4 @@
-// Makes a session of a script, that of standard input or of the file that the argument names, and writes it to standard output.
+// Makes a session of a script, which is read from standard input or from the file that the argument names, and writes it to standard output.
 // A script that is wrong gets a line on standard error, and nothing is written.
 use input::Input;
 use libc::STDERR_FILENO;

@@ -13,4 +13,4 @@ abbrev pub hasName : List ℕ → ℕ → List ℕ → Bool
 hasName w n x = same w x
 
 unfoldable pub rowNamed : List ℕ → ℕ
-rowNamed w = cond (leb (length w) 24) (firstWhere (hasName (padded 24 w)) 0 names) 74
+rowNamed w = cond (leb (length w) nameWidth) (firstWhere (hasName (padded nameWidth w)) 0 names) rowCount

@@ -21,7 +21,7 @@ pub overwrite-right : (l : List ℕ) (at : ℕ) (xs : List ℕ) → Overwritten 
 unfolding overwrite
 overwrite-right l at xs = record { size = overwrite-length l at xs; parts = sets-eq xs l at }
 
--- a mark past the end leaves room for nothing, not even for no byte
+-- a mark past the end leaves room for nothing, not even for zero bytes
 pub past-the-end : (size mark need : ℕ) → size < mark → fitsIn size mark need ≡ false
 past-the-end size mark need h = lt-leb (mark + need) size (omega arith)
 

@@ -4,11 +4,11 @@ use borrow.Author.Tests.{eq-eqb, ne-eqb}
 use Prim.Native.Nat.{_-_}
 use mathlib.Core.Path.{_∙_, sym}
 use Rattle.script.specs.Statements.{takes}
-use Rattle.script.proofs.statements.command_said.Statement.{statement}
-use Rattle.script.proofs.statements.command_said.Tie as tie
+use Rattle.script.proofs.statements.command_parsed.Statement.{statement}
+use Rattle.script.proofs.statements.command_parsed.Tie as tie
 
-pub command-said-spec : {M : Type 1} → statement M
-command-said-spec =
+pub command-parsed-spec : {M : Type 1} → statement M
+command-parsed-spec =
     tie.close
     (tie.spec
     (λ c. search needs)

@@ -3,11 +3,11 @@ use borrow.Author.Needs.{needs}
 use borrow.Author.Tests.{eq-eqb, ne-eqb}
 use mathlib.Core.Path.{sym, _∙_}
 use Rattle.text.specs.Words.{textOf, countOf}
-use Rattle.text.proofs.lists.counted.Statement.{statement}
-use Rattle.text.proofs.lists.counted.Tie as tie
+use Rattle.text.proofs.lists.with_count.Statement.{statement}
+use Rattle.text.proofs.lists.with_count.Tie as tie
 
-pub counted-spec : {M : Type 1} → statement M
-counted-spec =
+pub with-count-spec : {M : Type 1} → statement M
+with-count-spec =
     tie.close
     (tie.spec
     (λ c. search needs)

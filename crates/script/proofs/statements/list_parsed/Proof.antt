@@ -1,11 +1,11 @@
 -- By how the list ended.
 use borrow.Author.Needs.{needs}
 use borrow.Author.Tests.{eq-eqb, ne-eqb}
-use Rattle.script.proofs.statements.list_said.Statement.{statement}
-use Rattle.script.proofs.statements.list_said.Tie as tie
+use Rattle.script.proofs.statements.list_parsed.Statement.{statement}
+use Rattle.script.proofs.statements.list_parsed.Tie as tie
 
-pub list-said-spec : {M : Type 1} → statement M
-list-said-spec =
+pub list-parsed-spec : {M : Type 1} → statement M
+list-parsed-spec =
     tie.close
     (tie.spec
     (λ c. search needs)
