@@ -1,6 +1,6 @@
-/* The bench bridge, for C and for whatever links C. Every function here is proved to give what its comment says, for any
+/* The bridge, for C and for whatever links C. Every function here is proved to give what its comment says, for any
  * arguments: nothing is asked of the caller but that each pointer is good for its length and that no pointer which a call writes
- * through overlaps another of its pointers. Numbers of refusals are those of the house's paper, the lowest that applies; 0 says
+ * through overlaps another of its pointers. Numbers of refusals are those of document 01, the lowest that applies; 0 says
  * that a call was taken. A refused call changes no byte behind any pointer, but for the counts, which are 0, and where a comment
  * says otherwise.
  *
@@ -54,7 +54,7 @@ uint8_t bridge_factory_start(uint8_t *state, size_t state_size);
 /* One event: a received byte (kind BRIDGE_BYTE, the byte), or a line fault (BRIDGE_FAULT, 81 frame, 82 overrun, 83 parity, hex).
  * Samples are used from the mark `sampled` on; actions (four bytes each) and reply bytes are written from the marks `acted` and
  * `replied` on, in bytes. Taken, the new state is in the image, and the counts say how many samples were used, reply bytes and
- * actions written. Refused with 1 to 4 as in the paper, 8 for another kind, 9 for another fault. */
+ * actions written. Refused with 1 to 4 as in document 01, 8 for another kind, 9 for another fault. */
 uint8_t bridge_step(uint8_t *state, size_t state_size, uint8_t kind, uint8_t value,
                     const uint8_t *samples, size_t samples_size, size_t sampled,
                     uint8_t *actions, size_t actions_size, size_t acted,

@@ -33,12 +33,9 @@ fn main() {
         return;
     }
     let mut text = [0u8; 262144];
-    let Input::Whole(n) = input::read(&mut text) else {
+    let Input::Whole(n) = input::read_shorter(&mut text, b"assemble: more than 262,143 bytes\n")
+    else {
         return;
     };
-    if n == text.len() {
-        io::write_all(STDERR_FILENO, b"assemble: more than 262,143 bytes\n");
-        return;
-    }
     write(&text[..n]);
 }

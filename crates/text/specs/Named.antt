@@ -5,7 +5,7 @@ use mathlib.Core.List.{List}
 use lib.Dec.{leb}
 use lib.ListN.{length}
 use Rattle.padding.specs.Padding.{padded}
-use Rattle.names.specs.Names.{names, firstWhere}
+use Rattle.names.specs.Names.{names, nameWidth, rowCount, firstWhere}
 use Rattle.text.specs.Words.{same}
 
 -- whether a row has the name, and the row of a name, past the list's end if it has none
