@@ -1,5 +1,5 @@
 #!/usr/bin/env python3
-"""Puts 500 random scripts to the program `assemble` and compares what it writes with the second assembler: scripts.py PROGRAM [--seed N]."""
+"""Compares what `assemble` writes of 500 random scripts with the second assembler: scripts.py PROGRAM [--seed N]."""
 import argparse
 import pathlib
 import subprocess
