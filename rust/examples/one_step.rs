@@ -1,6 +1,6 @@
 //! One event from the factory start: 1A, which asks for COMMON_FLAGS.
 
-use bench_bridge::{step, Event, Refusal, State, MOST_ACTION_BYTES, MOST_REPLIES};
+use uart_bridge::{step, Event, Refusal, State, MOST_ACTION_BYTES, MOST_REPLIES};
 
 fn main() -> Result<(), Refusal> {
     let (mut actions, mut replies) = ([0; MOST_ACTION_BYTES], [0; MOST_REPLIES]);

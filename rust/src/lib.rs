@@ -96,7 +96,7 @@ pub enum Event {
     Fault(Fault),
 }
 
-/// Why a call was not taken: the number of the house's paper, 1 to 12.
+/// Why a call was not taken: the number of document 01, 1 to 12.
 #[derive(Clone, Copy, PartialEq, Eq, Debug, Hash)]
 pub struct Refusal(
     /// The number.
@@ -118,7 +118,7 @@ impl fmt::Display for Refusal {
             10 => "session over 32,768 bytes",
             11 => "factory image not good",
             12 => "the judge's start waits for something",
-            _ => "no number of the paper",
+            _ => "no number of document 01",
         };
         write!(f, "refusal {}: {reason}", self.0)
     }
@@ -224,7 +224,7 @@ pub fn switch_on(
 ///
 /// ```
 /// let session = [3, 0, 1, 0, 0x07, 0x01, 0x1A];
-/// let transcript: Vec<u8> = bench_bridge::Replay::new(&session).flatten().collect();
+/// let transcript: Vec<u8> = uart_bridge::Replay::new(&session).flatten().collect();
 /// assert_eq!(transcript[..5], [1, 0, 1, 1, 0]);
 /// ```
 #[derive(Clone, Debug)]

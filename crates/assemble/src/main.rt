@@ -1,4 +1,4 @@
-// Makes a session of a script, that of standard input or of the file that the argument names, and writes it to standard output.
+// Makes a session of a script, which is read from standard input or from the file that the argument names, and writes it to standard output.
 // A script that is wrong gets a line on standard error, and nothing is written.
 use input::Input;
 use libc::STDERR_FILENO;
@@ -33,12 +33,9 @@ fn main() {
         return;
     }
     let mut text = [0u8; 262144];
-    let Input::Whole(n) = input::read(&mut text) else {
+    let Input::Whole(n) = input::read_shorter(&mut text, b"assemble: more than 262,143 bytes\n")
+    else {
         return;
     };
-    if n == text.len() {
-        io::write_all(STDERR_FILENO, b"assemble: more than 262,143 bytes\n");
-        return;
-    }
     write(&text[..n]);
 }

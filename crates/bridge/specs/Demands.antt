@@ -16,8 +16,8 @@ use Rattle.registers.specs.declared.Event.the-variants as e
 use Rattle.registers.specs.declared.Wait.the-variants as v
 use Rattle.commands.specs.Said.{codesOf}
 use Rattle.commands.specs.Effects.{sentBy}
-use Rattle.grammar.specs.Calls.{Machine, Call}
-use Rattle.grammar.specs.Calls as grammar
+use Rattle.grammar.specs.Machines.{Machine, Call}
+use Rattle.grammar.specs.Machines as grammar
 use Rattle.grammar.specs.Following.{Leads}
 use Rattle.refusals.specs.Refusals.{numberOf}
 use Rattle.refusals.specs.declared.Refusal.{Refusal}

@@ -6,7 +6,6 @@ mod switched;
 mod text;
 
 use input::Input;
-use libc::STDERR_FILENO;
 use records::reading::joined;
 use text::say;
 
@@ -46,12 +45,8 @@ fn main() {
         return;
     }
     let mut file = io::large_buffer();
-    let Input::Whole(n) = input::read(&mut file) else {
+    let Input::Whole(n) = input::read_shorter(&mut file, b"cases: more than 65,535 bytes\n") else {
         return;
     };
-    if n == file.len() {
-        io::write_all(STDERR_FILENO, b"cases: more than 65,535 bytes\n");
-        return;
-    }
     show_all(&file[..n]);
 }

@@ -28,7 +28,7 @@ abbrev pub Every : {A : Type 0} → (A → Type 0) → List (Entry A) → Type 0
 Every P [] = Unit {0}
 Every P (e ∷ es) = P (e .meaning) × Every P es
 
--- what both ways have, the one that a test chooses has
+-- what holds of both branches holds of the one that a test chooses
 pub either : {A : Type 0} (P : A → Type 0) (t : Bool) (x y : A) → P x → P y → P (cond t x y)
 either P true x y p q = p
 either P false x y p q = q

@@ -45,8 +45,8 @@ rejects = true
 abbrev pub passes : Bool
 passes = false
 
-abbrev pub table : List (Entry Meaning)
-table =
+abbrev pub codeTable : List (Entry Meaning)
+codeTable =
     noError is means "none" passes
     ∷ noAcknowledge is means "no acknowledge" passes
     ∷ noConfiguration is means "no SPI configuration" rejects
@@ -59,7 +59,7 @@ table =
 
 -- of a number that is no code, no words
 abbrev pub meaningOf : ℕ → Meaning
-meaningOf k = lookup (means "" passes) k table
+meaningOf k = lookup (means "" passes) k codeTable
 
 abbrev pub rejecting : ℕ → Bool
 rejecting k = meaningOf k .rejects
@@ -69,9 +69,13 @@ abbrev pub anyRejecting : List ℕ → Bool
 anyRejecting [] = false
 anyRejecting (k ∷ ks) = rejecting k || anyRejecting ks
 
--- a code's words, blanks behind them up to the widest
+-- the widest words
+abbrev pub wordsWidth : ℕ
+wordsWidth = 20
+
+-- a code's words, padded with blanks to the widest
 abbrev pub wordsIn : Meaning → List ℕ
-wordsIn m = padded 20 (bytes (m .words))
+wordsIn m = padded wordsWidth (bytes (m .words))
 
 abbrev pub wordsOf : ℕ → List ℕ
 wordsOf k = wordsIn (meaningOf k)

@@ -18,11 +18,11 @@ pub const OVERRUN: u8 = 0x82;
 
 pub const PARITY: u8 = 0x83;
 
-// The bytes of a code's words, blanks behind them.
-pub const WIDTH: usize = 20;
+// The width of a code's words, padded with blanks.
+pub const WORDS_WIDTH: usize = 20;
 
 // A code in words; all blanks for a number that is no code.
-pub fn words(code: u8) -> [u8; WIDTH]
+pub fn words(code: u8) -> [u8; WORDS_WIDTH]
     ensures { λ r. ⌜ r ≡ wordsOf code ⌝ }
 {
     match code {
@@ -34,6 +34,6 @@ pub fn words(code: u8) -> [u8; WIDTH]
         FRAME => *b"frame               ",
         OVERRUN => *b"overrun             ",
         PARITY => *b"parity              ",
-        _ => [b' '; WIDTH],
+        _ => [b' '; WORDS_WIDTH],
     }
 }

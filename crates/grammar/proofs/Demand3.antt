@@ -1,16 +1,15 @@
 -- Demand 3, for every machine that follows the scanner. Assumes nothing.
 use Prim.Native.Nat.{ℕ, zero, suc, _<_}
 use mathlib.Core.Path.{_≡_, refl, sym, _∙_, ap, subst}
-use mathlib.Core.Bool.{Bool, true, false, cond, _||_, true≢false}
+use mathlib.Core.Bool.{Bool, true, false, _||_, true≢false}
 use mathlib.Core.List.{List, [], _∷_}
 use native.Mathlib.Omega.{arith}
-use native.Mathlib.Decide.{decLt}
 use Rattle.codes.specs.Codes.{anyRejecting}
 use Rattle.grammar.specs.Grammar.{Context}
 use Rattle.grammar.specs.Scanner.{Scanner, Scanned, Accepted, Rejected, between, scan, Course, through, rejectedAt, later, resume, scanAll}
 use Rattle.grammar.specs.Verdict.{FirstWrong}
-use Rattle.grammar.specs.Calls.{Machine, Call, Taken, answered, taken, final, bytes, told, wasRejected, NoneRejected, FirstRejected, Demand3}
-use Rattle.grammar.proofs.Follows.{Agree, Follows}
+use Rattle.grammar.specs.Machines.{Machine, Call, NotRefused, notRefused, final, bytes, told, wasRejected, NoneRejected, FirstRejected, Demand3}
+use Rattle.grammar.proofs.Follows.{Agree, Follows, along}
 use Rattle.grammar.proofs.Divisions.{one-division}
 use Rattle.grammar.proofs.Decides.{decides, reject-code}
 
@@ -18,15 +17,13 @@ clash {ℓ} : {A : Type ℓ} {b : Bool} → b ≡ true → b ≡ false → A
 clash p q = absurd (true≢false (sym p ∙ q))
 
 one-first : (cs : List (List ℕ)) (k j : ℕ) → FirstRejected cs k → FirstRejected cs j → k ≡ j
-one-first cs k j p q = go (decLt k j) (decLt j k)
-  where
-    go : Dec (k < j) → Dec (j < k) → k ≡ j
-    go (yes l) d = clash (p .0) (q .1 k l)
-    go (no l) (yes m) = clash (q .0) (p .1 j m)
-    go (no l) (no m) = omega arith
+one-first cs k j p q =
+    let l : ¬ (k < j) = λ h. clash (p .0) (q .1 k h) in
+    let m : ¬ (j < k) = λ h. clash (q .0) (p .1 j h) in
+    omega arith
 
 module _ (M : Machine) (view : M .State → Scanner) (F : Follows M view) where
-  -- the scanner's course over the bytes taken, the codes told, and the view at the end
+  -- the scanner's course over the bytes of the calls not refused, the codes told, and the view at the end
   Traced : Course → List (List ℕ) → Scanner → Type 0
   Traced (through h) cs v = NoneRejected cs × (v ≡ h)
   Traced (rejectedAt k w) cs v = FirstRejected cs k
@@ -44,37 +41,26 @@ module _ (M : Machine) (view : M .State → Scanner) (F : Follows M view) where
       here zero h = e
       here (suc j) h = t .1 j (omega arith)
 
-  traced : (s : M .State) → M .Good s → (ks : List (Call M)) → Traced (scanAll (view s) (bytes M (taken M s ks))) (told M (taken M s ks)) (view (final M s ks))
+  traced-byte : (v w u : Scanner) (t : NotRefused M) (ts : List (NotRefused M)) → Agree (scan v (t .byte)) (t .codes) v w → Traced (scanAll w (bytes M ts)) (told M ts) u
+      → Traced (scanAll v (bytes M (t ∷ ts))) (told M (t ∷ ts)) u
   unfolding Traced
-  traced s g [] = (λ j. refl, refl)
-  traced s g (k ∷ ks) = go (M .refuses s (k .byte) (k .lent)) refl (traced (answered M s k) (F .good s (k .byte) (k .lent) (k .fits) g) ks)
+  traced-byte v w u t ts a r = go (scan v (t .byte)) refl a
     where
-      ts : List (Taken M)
-      ts = taken M (answered M s k) ks
+      go : (o : Scanned) → scan v (t .byte) ≡ o → Agree o (t .codes) v w → Traced (resume o (λ (h : Scanner). scanAll h (bytes M ts))) (t .codes ∷ told M ts) u
+      go (Accepted h) q a = traced-later (scanAll h (bytes M ts)) (told M ts) (t .codes) u (a .0) (subst (λ (i : Scanner). Traced (scanAll i (bytes M ts)) (told M ts) u) (a .1) r)
+      go (Rejected x) q a = (ap anyRejecting (a .0) ∙ ap (λ (y : Bool). y || false) (reject-code v (t .byte) x q), λ j h. absurd (omega arith))
 
-      ws : List ℕ
-      ws = M .codes s (k .byte) (k .lent)
-
-      v : Scanner
-      v = view (final M (answered M s k) ks)
-
-      agree : (o : Scanned) → scan (view s) (k .byte) ≡ o → Agree o ws (view s) (view (answered M s k)) → Traced (scanAll (view (answered M s k)) (bytes M ts)) (told M ts) v
-          → Traced (resume o (λ (h : Scanner). scanAll h (bytes M ts))) (ws ∷ told M ts) v
-      agree (Accepted h) q a r = traced-later (scanAll h (bytes M ts)) (told M ts) ws v (a .0) (subst (λ (i : Scanner). Traced (scanAll i (bytes M ts)) (told M ts) v) (a .1) r)
-      agree (Rejected w) q a r = (ap anyRejecting (a .0) ∙ ap (λ (x : Bool). x || false) (reject-code (view s) (k .byte) w q), λ j h. absurd (omega arith))
-
-      go : (r : Bool) → M .refuses s (k .byte) (k .lent) ≡ r → Traced (scanAll (view (answered M s k)) (bytes M ts)) (told M ts) v
-          → Traced (scanAll (view s) (bytes M (cond r ts (record { byte = k .byte; codes = ws } ∷ ts)))) (told M (cond r ts (record { byte = k .byte; codes = ws } ∷ ts))) v
-      go true e r = subst (λ (x : M .State). Traced (scanAll (view x) (bytes M ts)) (told M ts) v) (F .kept s (k .byte) (k .lent) e) r
-      go false e r = agree (scan (view s) (k .byte)) refl (F .step s (k .byte) (k .lent) (k .fits) g e) r
+  traced : (s : M .State) → M .Good s → (ks : List (Call M)) → Traced (scanAll (view s) (bytes M (notRefused M s ks))) (told M (notRefused M s ks)) (view (final M s ks))
+  unfolding Traced
+  traced s g ks = along M view F (λ v ts u. Traced (scanAll v (bytes M ts)) (told M ts) u) (λ v. (λ j. refl, refl)) traced-byte s g ks
 
   -- a start that waits for nothing is seen between items
   pub seen-between : (s : M .State) → M .Idle s → view s ≡ between (M .context s)
   seen-between s i = λ x. record { context = F .viewed s x; place = F .idle s .0 i x }
 
-  traced-start : (s : M .State) → M .Good s → M .Idle s → (ks : List (Call M)) → Traced (scanAll (between (M .context s)) (bytes M (taken M s ks))) (told M (taken M s ks)) (view (final M s ks))
+  traced-start : (s : M .State) → M .Good s → M .Idle s → (ks : List (Call M)) → Traced (scanAll (between (M .context s)) (bytes M (notRefused M s ks))) (told M (notRefused M s ks)) (view (final M s ks))
   traced-start s g i ks =
-      subst (λ (h : Scanner). Traced (scanAll h (bytes M (taken M s ks))) (told M (taken M s ks)) (view (final M s ks))) (seen-between s i) (traced s g ks)
+      subst (λ (h : Scanner). Traced (scanAll h (bytes M (notRefused M s ks))) (told M (notRefused M s ks)) (view (final M s ks))) (seen-between s i) (traced s g ks)
 
   pub demand-3 : (s : M .State) → M .Good s → M .Idle s → (ks : List (Call M)) → Demand3 M s ks
   unfolding Traced
@@ -84,10 +70,10 @@ module _ (M : Machine) (view : M .State → Scanner) (F : Follows M view) where
       c = M .context s
 
       bs : List ℕ
-      bs = bytes M (taken M s ks)
+      bs = bytes M (notRefused M s ks)
 
       cs : List (List ℕ)
-      cs = told M (taken M s ks)
+      cs = told M (notRefused M s ks)
 
       v : Scanner
       v = view (final M s ks)

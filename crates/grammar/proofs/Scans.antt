@@ -83,10 +83,10 @@ latest-rejected zero k w = let q : k ≡ 0 + k = omega arith in ap (λ (n : ℕ)
 latest-rejected (suc i) k w = let q : i + suc k ≡ suc i + k = omega arith in latest-rejected i (suc k) w ∙ ap (λ (n : ℕ). rejectedAt n w) q
 
 -- the scanner's course, where i bytes have been read
-abbrev pub Read : List ℕ → Scanner → Scanner → ℕ → Type 0
-Read bs g₀ g i = scanAll g₀ bs ≡ latest i (scanAll g (drop i bs))
+abbrev pub ReadTo : List ℕ → Scanner → Scanner → ℕ → Type 0
+ReadTo bs g₀ g i = scanAll g₀ bs ≡ latest i (scanAll g (drop i bs))
 
-read-next : (bs : List ℕ) (g₀ g h : Scanner) (i : ℕ) → i < length bs → Accepted h ≡ scan g (getD bs i 0) → Read bs g₀ g i → Read bs g₀ h (i + 1)
+read-next : (bs : List ℕ) (g₀ g h : Scanner) (i : ℕ) → i < length bs → Accepted h ≡ scan g (getD bs i 0) → ReadTo bs g₀ g i → ReadTo bs g₀ h (i + 1)
 read-next bs g₀ g h i l e q =
     let n : suc i ≡ i + 1 = omega arith in
     q
@@ -94,7 +94,7 @@ read-next bs g₀ g h i l e q =
     ∙ ap (λ (x : Scanned). latest i (resume x (λ (h : Scanner). scanAll h (drop (suc i) bs)))) (sym e)
     ∙ ap (λ (x : ℕ). latest x (scanAll h (drop x bs))) n
 
-read-wrong : (bs : List ℕ) (g₀ g : Scanner) (i w : ℕ) → i < length bs → Rejected w ≡ scan g (getD bs i 0) → Read bs g₀ g i → Wrong i ≡ verdict (scanAll g₀ bs)
+read-wrong : (bs : List ℕ) (g₀ g : Scanner) (i w : ℕ) → i < length bs → Rejected w ≡ scan g (getD bs i 0) → ReadTo bs g₀ g i → Wrong i ≡ verdict (scanAll g₀ bs)
 read-wrong bs g₀ g i w l e q =
     let n : i + 0 ≡ i = omega arith in
     sym
@@ -105,14 +105,14 @@ read-wrong bs g₀ g i w l e q =
     ∙ latest-rejected i 0 w)
     ∙ ap Wrong n)
 
-read-end : (bs : List ℕ) (g₀ g : Scanner) (i : ℕ) → length bs ≤ i → Read bs g₀ g i → atEnd (g .place) ≡ verdict (scanAll g₀ bs)
+read-end : (bs : List ℕ) (g₀ g : Scanner) (i : ℕ) → length bs ≤ i → ReadTo bs g₀ g i → atEnd (g .place) ≡ verdict (scanAll g₀ bs)
 read-end bs g₀ g i l q =
     sym (ap verdict (q ∙ ap (λ (x : List ℕ). latest i (scanAll g x)) (drop-of-length-le bs l) ∙ latest-through i g))
 
 -- THE OPERANDS OF AN ITEM: all of them are there, or the bytes end inside it
 
-read-operands : (bs : List ℕ) (g₀ : Scanner) (e : ContextChange) (n b : ℕ) (c : Context) (i : ℕ) → i + n < length bs → b ≡ getD bs i 0 → Read bs g₀ (going e n b c) (i + 1)
-    → Read bs g₀ (between (contextAfter e (getD bs (i + n) 0) c)) (i + n + 1)
+read-operands : (bs : List ℕ) (g₀ : Scanner) (e : ContextChange) (n b : ℕ) (c : Context) (i : ℕ) → i + n < length bs → b ≡ getD bs i 0 → ReadTo bs g₀ (going e n b c) (i + 1)
+    → ReadTo bs g₀ (between (contextAfter e (getD bs (i + n) 0) c)) (i + n + 1)
 read-operands bs g₀ e zero b c i l q r =
     let z : i + 0 ≡ i = omega arith in
     rw (z, ← q) r
@@ -120,42 +120,42 @@ read-operands bs g₀ e (suc n) b c i l q r =
     let z : i + suc n ≡ i + 1 + n = omega arith in
     rw z (read-operands bs g₀ e n (getD bs (i + 1) 0) c (i + 1) (omega arith) refl (read-next bs g₀ _ _ (i + 1) (omega arith) refl r))
 
-read-short : (bs : List ℕ) (g₀ : Scanner) (e : ContextChange) (n b : ℕ) (c : Context) (i : ℕ) → i < length bs → length bs ≤ i + n → Read bs g₀ (going e n b c) (i + 1)
+read-short : (bs : List ℕ) (g₀ : Scanner) (e : ContextChange) (n b : ℕ) (c : Context) (i : ℕ) → i < length bs → length bs ≤ i + n → ReadTo bs g₀ (going e n b c) (i + 1)
     → Open ≡ verdict (scanAll g₀ bs)
 read-short bs g₀ e zero b c i l s r = absurd (omega arith)
 read-short bs g₀ e (suc n) b c i l s r = go (decLt (i + 1) (length bs)) (read-short bs g₀ e n (getD bs (i + 1) 0) c (i + 1))
   where
-    go : Dec (i + 1 < length bs) → (i + 1 < length bs → length bs ≤ i + 1 + n → Read bs g₀ (going e n (getD bs (i + 1) 0) c) (i + 1 + 1) → Open ≡ verdict (scanAll g₀ bs)) → Open ≡ verdict (scanAll g₀ bs)
+    go : Dec (i + 1 < length bs) → (i + 1 < length bs → length bs ≤ i + 1 + n → ReadTo bs g₀ (going e n (getD bs (i + 1) 0) c) (i + 1 + 1) → Open ≡ verdict (scanAll g₀ bs)) → Open ≡ verdict (scanAll g₀ bs)
     go (yes m) f = f m (omega arith) (read-next bs g₀ _ _ (i + 1) m refl r)
     go (no m) f = read-end bs g₀ _ (i + 1) (omega arith) r
 
 -- THE TURNS OF THE JUDGE'S LOOP, with i bytes read and the byte b at hand
 
-module _ (bs : List ℕ) (g₀ : Scanner) (c : Context) (b : ℕ) (x : Bool) (i : ℕ) (l : i < length bs) (at : b ≡ getD bs i 0) (r : Read bs g₀ (standing c x) i) where
+module _ (bs : List ℕ) (g₀ : Scanner) (c : Context) (b : ℕ) (x : Bool) (i : ℕ) (l : i < length bs) (at : b ≡ getD bs i 0) (r : ReadTo bs g₀ (standing c x) i) where
   here : {s : Scanned} → s ≡ opened (openingIn b x) c b → s ≡ scan (standing c x) (getD bs i 0)
   here e = e ∙ scan-standing c b x ∙ ap (scan (standing c x)) at
 
   pub turn-wrong : accepts (openingIn b x) c ≡ false → Wrong i ≡ verdict (scanAll g₀ bs)
   turn-wrong q = read-wrong bs g₀ _ i _ l (here (rejected (openingIn b x) c b _ q refl)) r
 
-  pub turn-extension : eqb b 0x1D && not x ≡ true → Read bs g₀ (standing c true) (i + 1)
+  pub turn-extension : eqb b 0x1D && not x ≡ true → ReadTo bs g₀ (standing c true) (i + 1)
   turn-extension q = read-next bs g₀ _ _ i l (here (opens b x c q)) r
 
-  taken : (n : ℕ) (e : ContextChange) → accepts (openingIn b x) c ≡ true → eqb b 0x1D && not x ≡ false → n ≡ operandsIn c b x → e ≡ changeOf (openingIn b x) → Read bs g₀ (going e n b c) (i + 1)
-  taken n e q h m f = read-next bs g₀ _ _ i l (here (accepted (openingIn b x) c b n e q (opens-none b x h) m f)) r
+  entered : (n : ℕ) (e : ContextChange) → accepts (openingIn b x) c ≡ true → eqb b 0x1D && not x ≡ false → n ≡ operandsIn c b x → e ≡ changeOf (openingIn b x) → ReadTo bs g₀ (going e n b c) (i + 1)
+  entered n e q h m f = read-next bs g₀ _ _ i l (here (accepted (openingIn b x) c b n e q (opens-none b x h) m f)) r
 
   pub turn-open : (n : ℕ) → accepts (openingIn b x) c ≡ true → eqb b 0x1D && not x ≡ false → n ≡ operandsIn c b x → length bs ≤ i + n → Open ≡ verdict (scanAll g₀ bs)
-  turn-open n q h m s = read-short bs g₀ _ n b c i l s (taken n (changeOf (openingIn b x)) q h m refl)
+  turn-open n q h m s = read-short bs g₀ _ n b c i l s (entered n (changeOf (openingIn b x)) q h m refl)
 
   pub turn-item : (n : ℕ) (e : ContextChange) (d : Context) → accepts (openingIn b x) c ≡ true → eqb b 0x1D && not x ≡ false → n ≡ operandsIn c b x → e ≡ changeOf (openingIn b x)
-      → i + n < length bs → d ≡ contextAfter e (getD bs (i + n) 0) c → Read bs g₀ (standing d false) (i + (n + 1))
+      → i + n < length bs → d ≡ contextAfter e (getD bs (i + n) 0) c → ReadTo bs g₀ (standing d false) (i + (n + 1))
   turn-item n e d q h m f s a =
       let z : i + (n + 1) ≡ i + n + 1 = omega arith in
-      rw (z, a) (read-operands bs g₀ e n b c i s at (taken n e q h m f))
+      rw (z, a) (read-operands bs g₀ e n b c i s at (entered n e q h m f))
 
-pub turn-end : (bs : List ℕ) (g₀ : Scanner) (c : Context) (x t : Bool) (i : ℕ) → length bs ≤ i → x ≡ t → Read bs g₀ (standing c x) i → cond t Open Whole ≡ verdict (scanAll g₀ bs)
-turn-end bs g₀ c x t i l e r = go t (subst (λ (y : Bool). Read bs g₀ (standing c y) i) e r)
+pub turn-end : (bs : List ℕ) (g₀ : Scanner) (c : Context) (x t : Bool) (i : ℕ) → length bs ≤ i → x ≡ t → ReadTo bs g₀ (standing c x) i → cond t Open Whole ≡ verdict (scanAll g₀ bs)
+turn-end bs g₀ c x t i l e r = go t (subst (λ (y : Bool). ReadTo bs g₀ (standing c y) i) e r)
   where
-    go : (y : Bool) → Read bs g₀ (standing c y) i → cond y Open Whole ≡ verdict (scanAll g₀ bs)
+    go : (y : Bool) → ReadTo bs g₀ (standing c y) i → cond y Open Whole ≡ verdict (scanAll g₀ bs)
     go true q = read-end bs g₀ _ i l q
     go false q = read-end bs g₀ _ i l q

@@ -1,12 +1,11 @@
 -- The tables: a code stands in each once, and looking a byte up finds its row. Assumes nothing.
 use Prim.Native.Nat.{ℕ}
 use mathlib.Core.Path.{_≡_, refl, sym, _∙_, ap, subst}
-use mathlib.Core.Bool.{Bool, true, false, cond, not, _&&_, true≢false, false≢true}
+use mathlib.Core.Bool.{Bool, true, false, cond, not, _&&_, true≢false, and-eq-true-iff}
 use mathlib.Core.List.{List, [], _∷_, List·Memᴰ, List·Memᴰ·head, List·Memᴰ·tail}
 use native.Mathlib.Omega.{arith}
 use borrow.Author.Tests.{eq-eqb, not-true}
 use lib.Dec.{T, eqb, eqb→eq}
-use Rattle.codes.proofs.Both.{both-left, both-right}
 use Rattle.grammar.specs.Grammar.{Command, commands, extendedCommands}
 use Rattle.grammar.specs.Scanner.{Known, Extension, rowOf, openingOf, extensionOf}
 
@@ -33,8 +32,8 @@ unfolding commands
 commands-fresh = refl
 
 fresh-mem : (b : ℕ) {k : Command} {l : List Command} → fresh b l ≡ true → List·Memᴰ k l → eqb (k .code) b ≡ false
-fresh-mem b {k} f (List·Memᴰ·head {x = x} {xs = xs} e) = ap (λ (y : Command). eqb (y .code) b) e ∙ not-true _ (both-left _ (fresh b xs) f)
-fresh-mem b {k} f (List·Memᴰ·tail {x = x} {xs = xs} m) = fresh-mem b (both-right (not (eqb (x .code) b)) (fresh b xs) f) m
+fresh-mem b {k} f (List·Memᴰ·head {x = x} {xs = xs} e) = ap (λ (y : Command). eqb (y .code) b) e ∙ not-true _ (and-eq-true-iff (not (eqb (x .code) b)) (fresh b xs) .0 f .0)
+fresh-mem b {k} f (List·Memᴰ·tail {x = x} {xs = xs} m) = fresh-mem b (and-eq-true-iff (not (eqb (x .code) b)) (fresh b xs) .0 f .1) m
 
 -- LOOKING A BYTE UP
 
@@ -52,8 +51,8 @@ row-complete : {k : Command} {l : List Command} → distinct l ≡ true → List
 row-complete {k} d (List·Memᴰ·head {x = x} {xs = xs} e) =
     ap (λ (t : Bool). cond t (Known x) (rowOf (k .code) xs)) (eq-eqb (k .code) (x .code) (ap (λ (y : Command). y .code) e)) ∙ ap Known (sym e)
 row-complete {k} d (List·Memᴰ·tail {x = x} {xs = xs} m) =
-    ap (λ (t : Bool). cond t (Known x) (rowOf (k .code) xs)) (fresh-mem (x .code) (both-left (fresh (x .code) xs) (distinct xs) d) m)
-    ∙ row-complete (both-right (fresh (x .code) xs) (distinct xs) d) m
+    ap (λ (t : Bool). cond t (Known x) (rowOf (k .code) xs)) (fresh-mem (x .code) (and-eq-true-iff (fresh (x .code) xs) (distinct xs) .0 d .0) m)
+    ∙ row-complete (and-eq-true-iff (fresh (x .code) xs) (distinct xs) .0 d .1) m
 
 pub row-no-extension : (b : ℕ) (l : List Command) → rowOf b l ≡ Extension → ⊥
 row-no-extension b [] e = let z : _≡_ {A = ℕ} 0 1 = cc in omega arith

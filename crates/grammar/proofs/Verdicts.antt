@@ -4,7 +4,6 @@ use mathlib.Core.Path.{_≡_, refl, sym, ap, subst}
 use mathlib.Core.List.{List, [], _∷_, _++_, append-nil}
 use mathlib.Core.Logic.{_↔_}
 use native.Mathlib.Omega.{arith}
-use native.Mathlib.Decide.{decLt}
 use lib.ListN.{take, drop, take-append-drop}
 use Rattle.grammar.specs.Grammar.{Context, Orderly, Continuable}
 use Rattle.grammar.specs.Scanner.{Place, Between, Extended, Inside, Scanner, between, Course, through, rejectedAt, scanAll}
@@ -63,12 +62,10 @@ never-wrong {ℓ} : {A : Type ℓ} (c : Context) (bs : List ℕ) (k : ℕ) → C
 never-wrong c bs k o s = absurd (s .1 (prefix-continuable c (take (suc k) bs) (drop (suc k) bs) (subst (Continuable c) (sym (take-append-drop (suc k) bs)) o)))
 
 one-smallest : (c : Context) (bs : List ℕ) (k j : ℕ) → SmallestWrong c bs k → SmallestWrong c bs j → k ≡ j
-one-smallest c bs k j s t = go (decLt k j) (decLt j k)
-  where
-    go : Dec (k < j) → Dec (j < k) → k ≡ j
-    go (yes l) d = absurd (s .1 (t .2 k l))
-    go (no l) (yes m) = absurd (t .1 (s .2 j m))
-    go (no l) (no m) = omega arith
+one-smallest c bs k j s t =
+    let l : ¬ (k < j) = λ h. s .1 (t .2 k h) in
+    let m : ¬ (j < k) = λ h. t .1 (s .2 j h) in
+    omega arith
 
 exclusive : (c : Context) (bs : List ℕ) (v w : Verdict) → Says c bs v → Says c bs w → v ≡ w
 exclusive c bs Whole Whole s t = refl

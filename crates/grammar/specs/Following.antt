@@ -5,21 +5,21 @@ use mathlib.Core.Bool.{Bool, true, false}
 use mathlib.Core.List.{List, [], _∷_}
 use Rattle.grammar.specs.Grammar.{Context, count}
 use Rattle.grammar.specs.Scanner.{Scanner, Scanned, Accepted, Rejected, Opening, Unknown, Known, Extension, openingOf, extensionOf, between, scan}
-use Rattle.grammar.specs.Calls.{Machine, Call, taken, final, bytes}
+use Rattle.grammar.specs.Machines.{Machine, Call, notRefused, final, bytes}
 
 -- a rejected byte leaves everything but ERROR as it is (01, "Registers and common commands"), and so where the bytes lead
-abbrev pub passing : Scanner → Scanned → Scanner
-passing g (Accepted h) = h
-passing g (Rejected w) = g
+abbrev pub scannerAfter : Scanner → Scanned → Scanner
+scannerAfter g (Accepted h) = h
+scannerAfter g (Rejected w) = g
 
 unfoldable pub followed : Scanner → List ℕ → Scanner
 followed g [] = g
-followed g (b ∷ bs) = followed (passing g (scan g b)) bs
+followed g (b ∷ bs) = followed (scannerAfter g (scan g b)) bs
 
 -- THEOREM (proofs/Leads.antt, `leads`): of a machine that follows the scanner and waits for nothing at the start, every list of
 -- calls, refused and rejected ones included, leads to that context
 abbrev pub Leads : (M : Machine) → M .State → List (Call M) → Type 0
-Leads M s ks = M .context (final M s ks) ≡ followed (between (M .context s)) (bytes M (taken M s ks)) .context
+Leads M s ks = M .context (final M s ks) ≡ followed (between (M .context s)) (bytes M (notRefused M s ks)) .context
 
 -- the operands of what a byte opens: of 1D its extended byte, of a command those of its row
 abbrev pub operandsOf : Opening → Context → ℕ

@@ -117,14 +117,14 @@ count Nine c = 9
 count Packet c = packetBytes (c .bits)
 
 -- "none, unconfigured, N = 1"
-abbrev pub cleared : Context
-cleared = record { interface = NoInterface; configured = false; bits = 1 }
+abbrev pub clearedContext : Context
+clearedContext = record { interface = NoInterface; configured = false; bits = 1 }
 
 -- the context after an item whose last byte is b: "00 clears the context to none, unconfigured, N = 1; 01 to 03 change the
 -- interface; 40 configures; 42 sets N. Nothing else changes it."
 abbrev pub contextAfter : ContextChange → ℕ → Context → Context
 contextAfter Keep b c = c
-contextAfter Clear b c = cleared
+contextAfter Clear b c = clearedContext
 contextAfter (Select i) b c = record { interface = i; configured = c .configured; bits = c .bits }
 contextAfter Configure b c = record { interface = c .interface; configured = true; bits = c .bits }
 contextAfter Resize b c = record { interface = c .interface; configured = c .configured; bits = sizeOf width b }
@@ -132,7 +132,7 @@ contextAfter Resize b c = record { interface = c .interface; configured = c .con
 -- the context at the factory start: 01, "Session file", "00 seven times and FF three", so no interface, and "Switch-on", "FF FF FF
 -- without SPI (then configuration 0, N 1, unconfigured)"
 abbrev pub factoryContext : Context
-factoryContext = cleared
+factoryContext = clearedContext
 
 -- the last of b and the bytes after it
 abbrev pub last : ℕ → List ℕ → ℕ

@@ -1,6 +1,6 @@
 pub mod Grammar
 pub mod Scanner
 pub mod Verdict
-pub mod Calls
+pub mod Machines
 pub mod Following
 pub mod Lookups

@@ -2,7 +2,7 @@
 ghost use mathlib.Core.Path.{_≡_};
 ghost use Rattle.grammar.specs.Grammar.{factoryContext};
 ghost use Rattle.grammar.specs.Scanner.{between, scan};
-ghost use Rattle.grammar.specs.Following.{passing, followed, operandsIn};
+ghost use Rattle.grammar.specs.Following.{scannerAfter, followed, operandsIn};
 use crate::Context;
 use crate::Place;
 use crate::Scanned;
@@ -14,7 +14,7 @@ use crate::scanning;
 pub fn start() -> Scanner
     ensures { λ r. ⌜ r ≡ between factoryContext ⌝ }
 {
-    let context = crate::cleared();
+    let context = crate::cleared_context();
     Scanner {
         context,
         place: Place::Between,
@@ -22,8 +22,8 @@ pub fn start() -> Scanner
 }
 
 // Where a scanner stands after a byte; one that is rejected leaves it where it is.
-fn pass(g: Scanner, b: u8) -> Scanner
-    ensures { λ r. ⌜ r ≡ passing g (scan g b) ⌝ }
+fn scanner_after(g: Scanner, b: u8) -> Scanner
+    ensures { λ r. ⌜ r ≡ scannerAfter g (scan g b) ⌝ }
 {
     let Scanned::Accepted(h) = scanning::scan_byte(g, b) else {
         return g;
@@ -38,7 +38,7 @@ pub fn follow(from: Scanner, bytes: &[u8]) -> Scanner
     let mut g = from;
     let mut i = 0;
     while i < bytes.len() {
-        g = pass(g, bytes[i]);
+        g = scanner_after(g, bytes[i]);
         i += 1;
     }
     g

@@ -1,6 +1,6 @@
 // The grammar of command streams, and the judge that decides it.
 ghost use mathlib.Core.Path.{_≡_};
-ghost use Rattle.grammar.specs.Grammar.{cleared};
+ghost use Rattle.grammar.specs.Grammar.{clearedContext};
 ghost use Rattle.grammar.specs.Verdict.{judgeOf};
 
 pub mod following;
@@ -57,8 +57,8 @@ pub enum Verdict {
 }
 
 // No interface, unconfigured, N 1: the context after 00, and at the factory start.
-pub(crate) fn cleared() -> Context
-    ensures { λ r. ⌜ r ≡ cleared ⌝ }
+pub(crate) fn cleared_context() -> Context
+    ensures { λ r. ⌜ r ≡ clearedContext ⌝ }
 {
     Context {
         interface: Interface::NoInterface,

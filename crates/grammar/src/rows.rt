@@ -42,7 +42,7 @@ pub(crate) fn is_legal(c: Context, b: u8, extended: bool) -> bool
     may_begin(c, b)
 }
 
-fn number_of(i: Interface) -> u8
+fn interface_number(i: Interface) -> u8
     ensures { λ r. ⌜ r ≡ interfaceNumber i ⌝ }
 {
     match i {
@@ -57,7 +57,7 @@ fn is_selected(i: Interface, c: Context) -> bool
     ensures { λ r. ⌜ r ≡ selected i c ⌝ }
 {
     let at = c.interface;
-    number_of(at) == number_of(i)
+    interface_number(at) == interface_number(i)
 }
 
 // The code that the device returns for a byte that is not legal.

@@ -17,7 +17,7 @@ pub(crate) fn context_after(e: ContextChange, b: u8, c: Context) -> Context
     let i = c.interface;
     match e {
         ContextChange::Keep => c,
-        ContextChange::Clear => crate::cleared(),
+        ContextChange::Clear => crate::cleared_context(),
         ContextChange::Select(j) => Context {
             interface: j,
             configured: c.configured,

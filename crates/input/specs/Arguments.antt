@@ -15,9 +15,9 @@ withFirst b [] = (b ∷ []) ∷ []
 withFirst b (w ∷ ws) = (b ∷ w) ∷ ws
 
 -- the words of a list, each one but the last followed by a space
-unfoldable pub wordsOf : List ℕ → List (List ℕ)
-wordsOf [] = []
-wordsOf (b ∷ bs) = cond (eqb b 0x20) ([] ∷ wordsOf bs) (withFirst b (wordsOf bs))
+unfoldable pub splitAtSpaces : List ℕ → List (List ℕ)
+splitAtSpaces [] = []
+splitAtSpaces (b ∷ bs) = cond (eqb b 0x20) ([] ∷ splitAtSpaces bs) (withFirst b (splitAtSpaces bs))
 
 -- a word is one of these
 unfoldable pub Among : List ℕ → List (List ℕ) → Type 0
@@ -35,5 +35,5 @@ isOption w = eqb (getD w 0 0) 0x2D
 -- what makes an argument a name, one of the options, or neither
 abbrev pub IsKind : Kind → List ℕ → List ℕ → Type 0
 IsKind k.Name options w = isOption w ≡ false
-IsKind k.Known options w = Among w (wordsOf options)
-IsKind k.Unknown options w = (isOption w ≡ true) × (Among w (wordsOf options) → ⊥)
+IsKind k.Known options w = Among w (splitAtSpaces options)
+IsKind k.Unknown options w = (isOption w ≡ true) × (Among w (splitAtSpaces options) → ⊥)

@@ -1,7 +1,7 @@
 // The arguments of a program: options, which start with `-`, and at most one name of a file. What a word is by its bytes is proved. Which
 // words the arguments are, the contracts of the system's calls don't say, so a function that asks for them has no contract.
 ghost use mathlib.Core.Path.{_≡_};
-ghost use Rattle.input.specs.Arguments.{Among, wordsOf, Tells, isOption, IsKind};
+ghost use Rattle.input.specs.Arguments.{Among, splitAtSpaces, Tells, isOption, IsKind};
 use libc::STDERR_FILENO;
 use libc::STDOUT_FILENO;
 
@@ -14,7 +14,7 @@ pub(crate) enum Kind {
 
 // Whether a list of words, each one but the last followed by a space, has a word.
 fn has_word(list: &[u8], word: &[u8]) -> bool
-    ensures { λ r. ⌜ Tells r (Among (now (word .entry)) (wordsOf (now (list .entry)))) ⌝ }
+    ensures { λ r. ⌜ Tells r (Among (now (word .entry)) (splitAtSpaces (now (list .entry)))) ⌝ }
 {
     let mut at: usize = 0;
     while at < list.len() {

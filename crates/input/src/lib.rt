@@ -73,3 +73,18 @@ pub fn read(buf: &mut [u8]) -> Input
     }
     read_file(&name[..n], buf)
 }
+
+// Reads the program's input, which is to be shorter than the buffer. If it is not, the line given is written to standard error.
+pub fn read_shorter(buf: &mut [u8], too_long: &[u8]) -> Input
+    ensures { λ r. ⌜ Counted r (now (buf .exit)) ⌝ }
+{
+    let r = read(buf);
+    let Input::Whole(n) = r else {
+        return Input::Failed;
+    };
+    if n == buf.len() {
+        io::write_all(libc::STDERR_FILENO, too_long);
+        return Input::Failed;
+    }
+    Input::Whole(n)
+}

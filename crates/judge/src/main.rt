@@ -3,7 +3,6 @@
 use bridge::Judgement;
 use grammar::Verdict;
 use input::Input;
-use libc::STDERR_FILENO;
 use libc::STDOUT_FILENO;
 
 fn say(v: Verdict) {
@@ -33,12 +32,8 @@ fn main() {
         return;
     }
     let mut bytes = io::large_buffer();
-    let Input::Whole(n) = input::read(&mut bytes) else {
+    let Input::Whole(n) = input::read_shorter(&mut bytes, b"judge: more than 65,535 bytes\n") else {
         return;
     };
-    if n == bytes.len() {
-        io::write_all(STDERR_FILENO, b"judge: more than 65,535 bytes\n");
-        return;
-    }
     answer(&bytes[..n]);
 }

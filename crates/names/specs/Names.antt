@@ -118,14 +118,21 @@ oneWire =
 abbrev pub rows : List Row
 rows = common ++ extended ++ i2c ++ spi ++ oneWire
 
+abbrev pub rowCount : ℕ
+rowCount = 74
+
+-- the width of a name, padded with blanks
+abbrev pub nameWidth : ℕ
+nameWidth = 24
+
 abbrev pub names : List (List ℕ)
-names = map (λ (r : Row). padded 24 (bytes (r .name))) rows
+names = map (λ (r : Row). padded nameWidth (bytes (r .name))) rows
 
 abbrev pub codes : List ℕ
 codes = map (λ (r : Row). r .code) rows
 
 unfoldable pub nameAt : ℕ → List ℕ
-nameAt n = getD names n (blanks 24)
+nameAt n = getD names n (blanks nameWidth)
 
 unfoldable pub codeAt : ℕ → ℕ
 codeAt n = getD codes n 0
@@ -146,5 +153,5 @@ firstWhere test n (x ∷ xs) = cond (test n x) n (firstWhere test (suc n) xs)
 abbrev pub hasCode : ℕ → Bool → ℕ → ℕ → Bool
 hasCode c e n x = eqb x c && Bool·beq (isExtended n) e
 
-unfoldable pub rowOf : ℕ → Bool → ℕ
-rowOf c e = firstWhere (hasCode c e) 0 codes
+unfoldable pub rowCoded : ℕ → Bool → ℕ
+rowCoded c e = firstWhere (hasCode c e) 0 codes

@@ -1,8 +1,8 @@
 // The list 001 as two tables, a row for each command in 01's order: 31 common, 11 extended, 8 I2C, 13 SPI, 11 1-Wire.
+use crate::NAME_WIDTH;
 use crate::ROWS;
-use crate::WIDTH;
 
-pub(crate) const NAMES: [[u8; WIDTH]; ROWS] = [
+pub(crate) const NAMES: [[u8; NAME_WIDTH]; ROWS] = [
     *b"ResetDevice             ",
     *b"InterfaceChoiceI2C      ",
     *b"InterfaceChoiceSPI      ",

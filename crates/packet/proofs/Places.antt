@@ -29,7 +29,7 @@ bit-place l p h =
     let e : 8 * (p / 8) + p % 8 ≡ p = omega arith in
     sym (bits-at l (p / 8) (p % 8) (omega arith) (omega arith)) ∙ ap (λ (n : ℕ). getD (bits l) n 0) e
 
--- FROM BEHIND
+-- COUNTED FROM THE END
 
 pub getD-reverse : (l : List ℕ) (i : ℕ) → i < length l → getD (reverse l) i 0 ≡ getD l (length l - 1 - i) 0
 getD-reverse [] i h = absurd (not-suc-le-zero h)
@@ -50,7 +50,7 @@ unfolding order
 length-order true bs = refl
 length-order false bs = length-reverse bs
 
--- a step's place: the same, or as far from behind
+-- a step's place: the step itself, or as far from the end
 pub order-at : (high : Bool) (w : ℕ) (bs : List ℕ) (i : ℕ) → length bs ≡ w → i < w → getD bs (cond high i (w - 1 - i)) 0 ≡ getD (order high bs) i 0
 unfolding order
 order-at true w bs i e h = refl

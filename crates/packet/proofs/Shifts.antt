@@ -12,7 +12,7 @@ use Rattle.packet.specs.Shift.{shifted, lowered, Exchanges}
 use Rattle.packet.proofs.Bytes.{length-bits}
 use Rattle.packet.proofs.Places.{length-order}
 
--- kept of n bits that stand lowest, whatever stands above them
+-- the low n bits are kept, whatever stands above them
 kept-low : (w : ℕ) (xs ys : List ℕ) → length xs ≡ w - length ys → kept w (length ys) (xs ++ ys) ≡ zeros (w - length ys) ++ ys
 unfolding kept
 kept-low w xs ys e = ap (λ (zs : List ℕ). zeros (w - length ys) ++ zs) (drop-at xs ys (w - length ys) e)

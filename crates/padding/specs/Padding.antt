@@ -1,4 +1,4 @@
--- Texts in tables: bytes of one width, blanks behind each.
+-- Texts in tables, padded with blanks to one width.
 use Prim.Native.Nat.{ℕ, zero, suc}
 use Prim.Native.Char.{code as charCode}
 use Prim.Native.String.{String, [] as []ᵀ, _∷_ as _∷ᵀ_}

@@ -1,4 +1,4 @@
-// Texts in tables: bytes of one width, blanks behind each.
+// Texts in tables, padded with blanks to one width.
 ghost use mathlib.Core.Path.{_≡_};
 ghost use Rattle.padding.specs.Padding.{trimmedOf};
 

@@ -1,16 +1,16 @@
--- A number is of one refusal only. Assumes nothing.
+-- No two refusals have the same number. Assumes nothing.
 use Prim.Native.Nat.{ℕ, _<_}
 use mathlib.Core.Path.{_≡_, refl, sym, ap, _∙_}
 use mathlib.Core.List.{_∷_}
 use native.Mathlib.Omega.{arith}
 use lib.ListN.{getD}
-use Rattle.refusals.specs.Refusals.{Refusal, Ranges, Samples, Actions, Replies, Header, Length, Passes, Kind, FaultBody, Size, Factory, Waits, numberOf, rows, InOrder}
+use Rattle.refusals.specs.Refusals.{Refusal, Ranges, Samples, Actions, Replies, Header, Length, Passes, Kind, FaultBody, Size, Factory, Waits, numberOf, refusals, InOrder}
 
 pub in-order : InOrder
 in-order = refl
 
 refusalAt : ℕ → Refusal
-refusalAt n = getD (Ranges ∷ rows) n Ranges
+refusalAt n = getD (Ranges ∷ refusals) n Ranges
 
 number-back : (r : Refusal) → refusalAt (numberOf r) ≡ r
 unfolding refusalAt
@@ -30,7 +30,7 @@ number-back Waits = refl
 pub same-number : (r q : Refusal) → numberOf r ≡ numberOf q → r ≡ q
 same-number r q n = sym (number-back r) ∙ ap refusalAt n ∙ number-back q
 
--- a refusal is one of 1 to 4, which a call for an event can be given, or of a higher number
+-- a refusal has a number from 1 to 4, which a call for an event can give, or a higher one
 pub by-number : (P : Refusal → Type 0) (r : Refusal)
     → (numberOf r ≡ 1 → P Ranges) → (numberOf r ≡ 2 → P Samples) → (numberOf r ≡ 3 → P Actions) → (numberOf r ≡ 4 → P Replies) → (4 < numberOf r → P r) → P r
 by-number P Ranges a b c d z = a refl

@@ -23,15 +23,15 @@ numberOf Factory = 11
 numberOf Waits = 12
 
 -- THEOREM (proofs/Numbers.antt, `in-order`): the numbers are those of the table's rows, from 1 on
-abbrev pub rows : List Refusal
-rows = Ranges ∷ Samples ∷ Actions ∷ Replies ∷ Header ∷ Length ∷ Passes ∷ Kind ∷ FaultBody ∷ Size ∷ Factory ∷ Waits ∷ []
+abbrev pub refusals : List Refusal
+refusals = Ranges ∷ Samples ∷ Actions ∷ Replies ∷ Header ∷ Length ∷ Passes ∷ Kind ∷ FaultBody ∷ Size ∷ Factory ∷ Waits ∷ []
 
 abbrev pub InOrder : Type 0
-InOrder = map numberOf rows ≡ 1 ∷ 2 ∷ 3 ∷ 4 ∷ 5 ∷ 6 ∷ 7 ∷ 8 ∷ 9 ∷ 10 ∷ 11 ∷ 12 ∷ []
+InOrder = map numberOf refusals ≡ 1 ∷ 2 ∷ 3 ∷ 4 ∷ 5 ∷ 6 ∷ 7 ∷ 8 ∷ 9 ∷ 10 ∷ 11 ∷ 12 ∷ []
 
 -- the words of numbers 1 to 12
-abbrev pub table : List String
-table =
+abbrev pub tableWords : List String
+tableWords =
     "the state breaks its ranges" ∷
     "fewer samples are left than the event uses" ∷
     "the actions do not fit" ∷
@@ -47,12 +47,12 @@ table =
     []
 
 -- the widest words
-abbrev pub width : ℕ
-width = 49
+abbrev pub wordsWidth : ℕ
+wordsWidth = 49
 
 abbrev pub lines : List (List ℕ)
-lines = blanks width ∷ map (λ (w : String). padded width (bytes w)) table
+lines = blanks wordsWidth ∷ map (λ (w : String). padded wordsWidth (bytes w)) tableWords
 
 -- a number's words, all blanks for one that is no refusal's
 unfoldable pub wordsOf : ℕ → List ℕ
-wordsOf n = getD lines n (blanks width)
+wordsOf n = getD lines n (blanks wordsWidth)

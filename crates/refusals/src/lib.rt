@@ -18,14 +18,14 @@ pub enum Refusal {
     Waits,
 }
 
-// The bytes of a refusal's words, blanks behind them.
-pub const WIDTH: usize = 49;
+// The width of a refusal's words, padded with blanks.
+pub const WORDS_WIDTH: usize = 49;
 
-// How many numbers there are; 0 is none's.
+// How many numbers there are, with 0, which is no refusal's.
 const NUMBERS: usize = 13;
 
-const WORDS: [[u8; WIDTH]; NUMBERS] = [
-    [b' '; WIDTH],
+const WORDS: [[u8; WORDS_WIDTH]; NUMBERS] = [
+    [b' '; WORDS_WIDTH],
     *b"the state breaks its ranges                      ",
     *b"fewer samples are left than the event uses       ",
     *b"the actions do not fit                           ",
@@ -60,12 +60,12 @@ pub fn number(r: Refusal) -> u8
     }
 }
 
-// The refusal of a number in words; all blanks for a number that is none's.
-pub fn words(number: usize) -> [u8; WIDTH]
+// The refusal of a number in words; all blanks for a number that is no refusal's.
+pub fn words(number: usize) -> [u8; WORDS_WIDTH]
     ensures { λ r. ⌜ r ≡ wordsOf number ⌝ }
 {
     if NUMBERS <= number {
-        return [b' '; WIDTH];
+        return [b' '; WORDS_WIDTH];
     }
     WORDS[number]
 }

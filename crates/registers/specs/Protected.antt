@@ -29,7 +29,7 @@ abbrev pub KeepsProtected : PortRegister → ℕ → ℕ → ℕ → Type 0
 KeepsProtected r old new x = (i : ℕ) → i < 8 → bit i x ≡ cond (oneOf i (protectedBits r)) (bit i old) (bit i new)
 
 -- THEOREM (proofs/Protected.antt, `protected-right`): what a register becomes where an operand is written has these bits, and is
--- the only byte that has
+-- the only byte that has them
 pub record Protected (r : PortRegister) (old new : ℕ) : Type 0 where
   pub bits : KeepsProtected r old new (protected r old new)
   pub only : old < 256 → new < 256 → (x : ℕ) → x < 256 → KeepsProtected r old new x → x ≡ protected r old new

@@ -151,11 +151,11 @@ withShared s h = record { page = s .page; shared = h; wait = s .wait; held = s .
 abbrev pub withReceived : State → List ℕ → State
 withReceived s r = withPage s (withPacket (s .page) r)
 
--- waiting on, with what is held
+-- the wait goes on, with what is held
 abbrev pub holding : State → Wait → List ℕ → State
 holding s w h = record { page = s .page; shared = s .shared; wait = w; held = h }
 
--- waiting anew: nothing is held where a wait begins
+-- a wait begins, and nothing is held yet
 abbrev pub waiting : State → Wait → State
 waiting s w = holding s w (zeros heldBytes)
 

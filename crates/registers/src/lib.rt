@@ -42,7 +42,7 @@ pub struct Page {
     pub portb: u8,
 }
 
-// What is no register: the EPROM image, the version, the IOG count and the serial number, low byte first. Their order, too, is the one
+// What is not a register: the EPROM image, the version, the IOG count and the serial number, low byte first. Their order, too, is the one
 // that compiles best.
 pub struct Shared {
     pub cycles: u8,
@@ -83,7 +83,7 @@ pub enum Wait {
     Timings { left: u8 },
 }
 
-// The state; `held` are the packet or timing bytes that the wait has so far.
+// The state; `held` has the packet or timing bytes that came in for the wait so far.
 pub struct State {
     pub held: [u8; HELD],
     pub shared: Shared,
@@ -91,7 +91,7 @@ pub struct State {
     pub wait: Wait,
 }
 
-// Which of three a line fault was.
+// Which of the three a line fault was.
 pub enum Fault {
     Frame,
     Overrun,

@@ -88,7 +88,7 @@ pub fn packet_bytes(size: u8) -> u8
     size / 8 + 1
 }
 
-// The state with another page.
+// The state with its page replaced.
 pub fn with_page(mut s: State, page: Page) -> State
     ensures { λ t. ⌜ t ≡ withPage s page ⌝ }
 {
@@ -96,7 +96,7 @@ pub fn with_page(mut s: State, page: Page) -> State
     s
 }
 
-// The state with another packet register.
+// The state with its packet register replaced.
 pub fn with_packet(s: State, r: packet::Register) -> State
     ensures { λ t. ⌜ t ≡ withReceived s r ⌝ }
 {
@@ -105,7 +105,7 @@ pub fn with_packet(s: State, r: packet::Register) -> State
     with_page(s, page)
 }
 
-// The state with another wait and the bytes held for it.
+// The state with its wait and the bytes held for it replaced.
 pub fn with_wait(s: State, wait: Wait, held: [u8; HELD]) -> State
     ensures { λ t. ⌜ t ≡ holding s wait held ⌝ }
 {

@@ -1,5 +1,5 @@
 -- Laws that the proofs of several functions cite.
 pub mod Commands
 pub mod Cutting
-pub mod Saying
+pub mod Parsing
 pub mod Assembling

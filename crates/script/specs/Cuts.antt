@@ -5,7 +5,7 @@ use mathlib.Core.List.{List, []}
 use lib.Dec.{leb, ltb}
 use lib.ListN.{length, take, drop}
 use Rattle.records.specs.Records.{mostBody, recordOf}
-use Rattle.text.specs.Lists.{Read, read, after}
+use Rattle.text.specs.Lists.{Read, read, prefixed}
 use Rattle.text.specs.declared.Assembled.{Assembled}
 use Rattle.text.specs.declared.Expected.the-variants as x
 use Rattle.text.specs.declared.Stop.the-variants as s
@@ -22,7 +22,7 @@ unfoldable pub cutFor : ℕ → ℕ → List ℕ → ℕ → ℕ → Read
 cutFor zero kind xs room p = read [] s.Done
 cutFor (suc n) kind xs room p =
     cond (leb (length xs) mostBody) (lastPiece kind xs room p)
-    (cond (ltb room (4 + mostBody)) (read [] (s.Wrong p x.Room)) (after (recordOf kind (take mostBody xs)) (cutFor n kind (drop mostBody xs) (room - (4 + mostBody)) p)))
+    (cond (ltb room (4 + mostBody)) (read [] (s.Wrong p x.Room)) (prefixed (recordOf kind (take mostBody xs)) (cutFor n kind (drop mostBody xs) (room - (4 + mostBody)) p)))
 
 -- a piece takes bytes of the list, so its length and one are pieces enough
 unfoldable pub cutOf : ℕ → List ℕ → ℕ → ℕ → Read

@@ -1,5 +1,5 @@
 pub mod Commands
 pub mod Cuts
 pub mod Statements
-pub mod Said
+pub mod Parsed
 pub mod Script

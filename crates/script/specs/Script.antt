@@ -9,7 +9,7 @@ use Rattle.grammar.specs.Scanner.{between}
 use Rattle.grammar.specs.declared.Scanner.{Scanner}
 use Rattle.grammar.specs.Following.{followed}
 use Rattle.text.specs.Words.{past}
-use Rattle.text.specs.Lists.{Read, read, after}
+use Rattle.text.specs.Lists.{Read, read, prefixed}
 use Rattle.text.specs.declared.Stop.{Stop}
 use Rattle.script.specs.Cuts.{cutOf}
 use Rattle.script.specs.Statements.{Statement, nothing, bytes, wrong, statementAt}
@@ -30,7 +30,7 @@ handed g (wrong q e) = g
 
 -- what is read, and then the rest unless something is wrong
 abbrev pub goingOn : List ℕ → Stop → Read → Read
-goingOn xs s.Done rest = after xs rest
+goingOn xs s.Done rest = prefixed xs rest
 goingOn xs (s.Wrong p e) rest = read xs (s.Wrong p e)
 
 -- THE SCRIPT from a place on, to which the bytes so far lead, in so many lines. A line takes a byte of the text, so the text's

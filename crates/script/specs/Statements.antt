@@ -6,7 +6,7 @@ use mathlib.Core.List.{List, [], _∷_, _++_}
 use lib.Dec.{eqb, ltb}
 use lib.ListN.{length}
 use Rattle.padding.specs.Padding.{bytes as text}
-use Rattle.names.specs.Names.{codeAt, isExtended}
+use Rattle.names.specs.Names.{codeAt, isExtended, rowCount}
 use Rattle.registers.specs.Registers.{faultCode}
 use Rattle.registers.specs.declared.Fault.the-variants.{Frame, Overrun, Parity}
 use Rattle.grammar.specs.declared.Context.{Context}
@@ -31,20 +31,20 @@ pub data Statement : Type 0 where
   wrong : ℕ → Expected → Statement
 
 -- a list after a keyword that ends at a place: one byte at the least
-abbrev pub listSaid : ℕ → ℕ → List ℕ → Stop → Statement
-listSaid kind p xs s.Done = cond (eqb (length xs) 0) (wrong p x.Byte) (bytes kind xs)
-listSaid kind p xs (s.Wrong q e) = wrong q e
+abbrev pub listStatement : ℕ → ℕ → List ℕ → Stop → Statement
+listStatement kind p xs s.Done = cond (eqb (length xs) 0) (wrong p x.Byte) (bytes kind xs)
+listStatement kind p xs (s.Wrong q e) = wrong q e
 
 -- a fault's code by its name, 0 if it has none
 abbrev pub faultNamed : List ℕ → ℕ
 faultNamed w = cond (same w (text "frame")) (faultCode Frame) (cond (same w (text "overrun")) (faultCode Overrun) (cond (same w (text "parity")) (faultCode Parity) 0))
 
 -- .. and then the line's end
-abbrev pub faultSaid : ℕ → Word → Statement
-faultSaid code v = cond (eqb (v .start) (v .end)) (bytes 2 (code ∷ [])) (wrong (v .start) x.LineEnd)
+abbrev pub faultStatement : ℕ → Word → Statement
+faultStatement code v = cond (eqb (v .start) (v .end)) (bytes 2 (code ∷ [])) (wrong (v .start) x.LineEnd)
 
 abbrev pub faultAt : List ℕ → Word → Statement
-faultAt t w = cond (eqb (faultNamed (textOf t w)) 0) (wrong (w .start) x.Fault) (faultSaid (faultNamed (textOf t w)) (wordAt t (w .end)))
+faultAt t w = cond (eqb (faultNamed (textOf t w)) 0) (wrong (w .start) x.Fault) (faultStatement (faultNamed (textOf t w)) (wordAt t (w .end)))
 
 -- a command's bytes before its operands: 1D before an extended one
 abbrev pub opening : ℕ → List ℕ
@@ -54,18 +54,18 @@ opening row = cond (isExtended row) (0x1D ∷ codeAt row ∷ []) (codeAt row ∷
 abbrev pub takes : Context → ℕ → ℕ
 takes c row = operandsIn c (codeAt row) (isExtended row)
 
-abbrev pub commandSaid : Context → ℕ → ℕ → List ℕ → Stop → Statement
-commandSaid c row p xs s.Done = cond (eqb (length xs) (takes c row)) (bytes 1 (opening row ++ xs)) (wrong p (x.Operands (takes c row)))
-commandSaid c row p xs (s.Wrong q e) = wrong q e
+abbrev pub commandStatement : Context → ℕ → ℕ → List ℕ → Stop → Statement
+commandStatement c row p xs s.Done = cond (eqb (length xs) (takes c row)) (bytes 1 (opening row ++ xs)) (wrong p (x.Operands (takes c row)))
+commandStatement c row p xs (s.Wrong q e) = wrong q e
 
 -- a command whose name is the word, if there is one
 abbrev pub commandAt : List ℕ → Context → Word → ℕ → Statement
 commandAt t c w row =
-    cond (ltb row 74) (commandSaid c row (w .start) (listOf t (most - length (opening row)) (w .end) .bytes) (listOf t (most - length (opening row)) (w .end) .stop)) (wrong (w .start) x.Statement)
+    cond (ltb row rowCount) (commandStatement c row (w .start) (listOf t (most - length (opening row)) (w .end) .bytes) (listOf t (most - length (opening row)) (w .end) .stop)) (wrong (w .start) x.Statement)
 
 -- THE STATEMENT by its first word, and at a place of the text, in the context that the bytes before it lead to
 abbrev pub listAt : List ℕ → ℕ → ℕ → Statement
-listAt t kind p = listSaid kind p (listOf t most p .bytes) (listOf t most p .stop)
+listAt t kind p = listStatement kind p (listOf t most p .bytes) (listOf t most p .stop)
 
 abbrev pub statementBy : List ℕ → Context → Word → Statement
 statementBy t c w =

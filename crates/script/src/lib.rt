@@ -3,7 +3,7 @@ ghost use mathlib.Core.Path.{_≡_};
 ghost use Prim.Native.Nat.{_-_, _≤_};
 ghost use lib.ListN.{length};
 ghost use Rattle.text.specs.Lists.{Reads};
-ghost use Rattle.script.specs.Said.{meant, Within};
+ghost use Rattle.script.specs.Parsed.{meant, InBuffer};
 ghost use Rattle.script.specs.Script.{recordsOf, handed, scriptOf};
 
 mod cut;
@@ -11,7 +11,7 @@ mod statements;
 
 use grammar::Scanner;
 use grammar::following;
-use statements::Said;
+use statements::Parsed;
 use text::Assembled;
 use text::Stop;
 use text::words;
@@ -22,17 +22,17 @@ const MOST_SESSION: usize = 32768;
 
 // The records of what the line at a place says, to the output from a place on. The caller shows that the statement's bytes are in
 // the buffer and that the place is there.
-fn put_said(said: Said, body: &[u8], at: usize, out: &mut [u8], size: usize) -> Assembled
-    requires { ⌜ Within (now body) said × (size ≤ length (now out)) ⌝ }
-    ensures { λ r. ⌜ Reads (recordsOf (length (now (out .entry)) - size) at (meant (now (body .entry)) said)) (now (out .entry)) size (now (out .exit)) r ⌝ }
+fn put_parsed(parsed: Parsed, body: &[u8], at: usize, out: &mut [u8], size: usize) -> Assembled
+    requires { ⌜ InBuffer (now body) parsed × (size ≤ length (now out)) ⌝ }
+    ensures { λ r. ⌜ Reads (recordsOf (length (now (out .entry)) - size) at (meant (now (body .entry)) parsed)) (now (out .entry)) size (now (out .exit)) r ⌝ }
 {
-    match said {
-        Said::Nothing => Assembled {
+    match parsed {
+        Parsed::Nothing => Assembled {
             size,
             stop: Stop::Done,
         },
-        Said::Bytes { kind, size: n } => cut::put_records(out, size, kind, &body[..n], at),
-        Said::Wrong { place, expected } => {
+        Parsed::Bytes { kind, size: n } => cut::put_records(out, size, kind, &body[..n], at),
+        Parsed::Wrong { place, expected } => {
             let stop = Stop::Wrong { place, expected };
             Assembled { size, stop }
         }
@@ -40,19 +40,19 @@ fn put_said(said: Said, body: &[u8], at: usize, out: &mut [u8], size: usize) -> 
 }
 
 // Where the bytes lead after what a line says. The caller shows that the statement's bytes are in the buffer.
-fn hand_over(g: Scanner, said: Said, body: &[u8]) -> Scanner
-    requires { ⌜ Within (now body) said ⌝ }
-    ensures { λ r. ⌜ r ≡ handed g (meant (now (body .entry)) said) ⌝ }
+fn hand_over(g: Scanner, parsed: Parsed, body: &[u8]) -> Scanner
+    requires { ⌜ InBuffer (now body) parsed ⌝ }
+    ensures { λ r. ⌜ r ≡ handed g (meant (now (body .entry)) parsed) ⌝ }
 {
-    match said {
-        Said::Nothing => g,
-        Said::Bytes { kind, size } => {
+    match parsed {
+        Parsed::Nothing => g,
+        Parsed::Bytes { kind, size } => {
             if kind == statements::BYTES {
                 return following::follow(g, &body[..size]);
             }
             g
         }
-        Said::Wrong {
+        Parsed::Wrong {
             place: _,
             expected: _,
         } => g,
@@ -69,13 +69,13 @@ pub fn assemble(text: &[u8], out: &mut [u8]) -> Assembled
     let mut at: usize = 0;
     let mut size: usize = 0;
     while at < text.len() {
-        let said = statements::statement(text, g.context, at, &mut body);
-        let r = put_said(said, &body, at, out, size);
+        let parsed = statements::statement(text, g.context, at, &mut body);
+        let r = put_parsed(parsed, &body, at, out, size);
         let stop = r.stop;
         size = r.size;
         match stop {
             Stop::Done => {
-                g = hand_over(g, said, &body);
+                g = hand_over(g, parsed, &body);
                 at = words::past(text, Class::Line, at) + 1;
             }
             Stop::Wrong { place, expected } => {

@@ -4,7 +4,7 @@ ghost use Prim.Native.Nat.{_≤_};
 ghost use lib.ListN.{length};
 ghost use Rattle.wire.specs.Buffer.{Written};
 ghost use Rattle.script.specs.Statements.{most, faultNamed, faultAt, opening, takes, commandAt, listAt, statementBy, statementAt};
-ghost use Rattle.script.specs.Said.{Says, listSaying, commandSaying};
+ghost use Rattle.script.specs.Parsed.{Parses, listParsed, commandParsed};
 use grammar::Context;
 use grammar::following;
 use registers::Fault;
@@ -28,29 +28,29 @@ const SAMPLES: u16 = 3;
 const EXTENDED: u8 = 0x1D;
 
 // What a line says: nothing, so many bytes at the front of a buffer for records of a kind, or what is wrong at a place.
-pub(crate) enum Said {
+pub(crate) enum Parsed {
     Nothing,
     Bytes { kind: u16, size: usize },
     Wrong { place: usize, expected: Expected },
 }
 
 // A list of a kind after a keyword that ends at a place, read to a buffer.
-fn list_said(kind: u16, place: usize, r: Assembled) -> Said
-    ensures { λ s. ⌜ s ≡ listSaying kind place r ⌝ }
+fn list_parsed(kind: u16, place: usize, r: Assembled) -> Parsed
+    ensures { λ s. ⌜ s ≡ listParsed kind place r ⌝ }
 {
     let stop = r.stop;
     let size = r.size;
     match stop {
         Stop::Done => {
             if size == 0 {
-                return Said::Wrong {
+                return Parsed::Wrong {
                     place,
                     expected: Expected::Byte,
                 };
             }
-            Said::Bytes { kind, size }
+            Parsed::Bytes { kind, size }
         }
-        Stop::Wrong { place, expected } => Said::Wrong { place, expected },
+        Stop::Wrong { place, expected } => Parsed::Wrong { place, expected },
     }
 }
 
@@ -71,15 +71,15 @@ fn fault_named(word: &[u8]) -> u8
 }
 
 // A fault by the word that names it.
-fn fault(text: &[u8], w: Word, body: &mut [u8]) -> Said
+fn fault(text: &[u8], w: Word, body: &mut [u8]) -> Parsed
     requires { ⌜ (w .start ≤ w .end) × (w .end ≤ length (now text)) × (length (now body) ≡ most) ⌝ }
-    ensures { λ r. ⌜ Says (faultAt (now (text .entry)) w) (now (body .exit)) r ⌝ }
+    ensures { λ r. ⌜ Parses (faultAt (now (text .entry)) w) (now (body .exit)) r ⌝ }
 {
     let from = w.start;
     let to = w.end;
     let code = fault_named(&text[from..to]);
     if code == 0 {
-        return Said::Wrong {
+        return Parsed::Wrong {
             place: from,
             expected: Expected::Fault,
         };
@@ -87,9 +87,9 @@ fn fault(text: &[u8], w: Word, body: &mut [u8]) -> Said
     let end = word_at(text, to);
     if end.start == end.end {
         let size = wire::put_bytes(body, 0, &[code]);
-        return Said::Bytes { kind: FAULT, size };
+        return Parsed::Bytes { kind: FAULT, size };
     }
-    Said::Wrong {
+    Parsed::Wrong {
         place: end.start,
         expected: Expected::LineEnd,
     }
@@ -115,9 +115,9 @@ fn takes(c: Context, row: usize) -> u8
 }
 
 // A row's command with its name's place, with its operands read behind its first bytes. The caller shows that they are behind them.
-fn command_said(c: Context, row: usize, place: usize, from: usize, r: Assembled) -> Said
+fn command_parsed(c: Context, row: usize, place: usize, from: usize, r: Assembled) -> Parsed
     requires { ⌜ from ≤ r .size ⌝ }
-    ensures { λ s. ⌜ s ≡ commandSaying c row place from r ⌝ }
+    ensures { λ s. ⌜ s ≡ commandParsed c row place from r ⌝ }
 {
     let stop = r.stop;
     let size = r.size;
@@ -125,52 +125,52 @@ fn command_said(c: Context, row: usize, place: usize, from: usize, r: Assembled)
         Stop::Done => {
             let wanted = takes(c, row);
             if size - from == wanted as usize {
-                return Said::Bytes { kind: BYTES, size };
+                return Parsed::Bytes { kind: BYTES, size };
             }
-            Said::Wrong {
+            Parsed::Wrong {
                 place,
                 expected: Expected::Operands(wanted),
             }
         }
-        Stop::Wrong { place, expected } => Said::Wrong { place, expected },
+        Stop::Wrong { place, expected } => Parsed::Wrong { place, expected },
     }
 }
 
 // A command by its row, past the list's end if the word names none.
-fn command(text: &[u8], c: Context, w: Word, row: usize, body: &mut [u8]) -> Said
+fn command(text: &[u8], c: Context, w: Word, row: usize, body: &mut [u8]) -> Parsed
     requires { ⌜ (w .start ≤ w .end) × (w .end ≤ length (now text)) × (length (now body) ≡ most) ⌝ }
-    ensures { λ r. ⌜ Says (commandAt (now (text .entry)) c w row) (now (body .exit)) r ⌝ }
+    ensures { λ r. ⌜ Parses (commandAt (now (text .entry)) c w row) (now (body .exit)) r ⌝ }
 {
     let place = w.start;
     if names::ROWS <= row {
-        return Said::Wrong {
+        return Parsed::Wrong {
             place,
             expected: Expected::Statement,
         };
     }
     let from = put_opening(row, body);
     let r = list(text, w.end, body, from);
-    command_said(c, row, place, from, r)
+    command_parsed(c, row, place, from, r)
 }
 
 // A list of a kind, after a keyword that ends at a place.
-fn list_at(text: &[u8], kind: u16, at: usize, body: &mut [u8]) -> Said
+fn list_at(text: &[u8], kind: u16, at: usize, body: &mut [u8]) -> Parsed
     requires { ⌜ (at ≤ length (now text)) × (length (now body) ≡ most) ⌝ }
-    ensures { λ r. ⌜ Says (listAt (now (text .entry)) kind at) (now (body .exit)) r ⌝ }
+    ensures { λ r. ⌜ Parses (listAt (now (text .entry)) kind at) (now (body .exit)) r ⌝ }
 {
     let r = list(text, at, body, 0);
-    list_said(kind, at, r)
+    list_parsed(kind, at, r)
 }
 
 // The statement that begins with a word.
-fn statement_by(text: &[u8], c: Context, w: Word, body: &mut [u8]) -> Said
+fn statement_by(text: &[u8], c: Context, w: Word, body: &mut [u8]) -> Parsed
     requires { ⌜ (w .start ≤ w .end) × (w .end ≤ length (now text)) × (length (now body) ≡ most) ⌝ }
-    ensures { λ r. ⌜ Says (statementBy (now (text .entry)) c w) (now (body .exit)) r ⌝ }
+    ensures { λ r. ⌜ Parses (statementBy (now (text .entry)) c w) (now (body .exit)) r ⌝ }
 {
     let from = w.start;
     let to = w.end;
     if from == to {
-        return Said::Nothing;
+        return Parsed::Nothing;
     }
     let word = &text[from..to];
     if check::same(word, b"send") {
@@ -187,9 +187,9 @@ fn statement_by(text: &[u8], c: Context, w: Word, body: &mut [u8]) -> Said
 
 // The statement of the line at a place of the text, with its bytes at the front of a buffer. The caller shows that the place is
 // there and that the buffer has room for the most bytes of a session.
-pub(crate) fn statement(text: &[u8], c: Context, at: usize, body: &mut [u8]) -> Said
+pub(crate) fn statement(text: &[u8], c: Context, at: usize, body: &mut [u8]) -> Parsed
     requires { ⌜ (at ≤ length (now text)) × (length (now body) ≡ most) ⌝ }
-    ensures { λ r. ⌜ Says (statementAt (now (text .entry)) c at) (now (body .exit)) r ⌝ }
+    ensures { λ r. ⌜ Parses (statementAt (now (text .entry)) c at) (now (body .exit)) r ⌝ }
 {
     let w = word_at(text, at);
     statement_by(text, c, w, body)

@@ -2,7 +2,6 @@
 // of them, or what is wrong with it. A script is its length (16 bits, little-endian) and its text.
 ghost use Prim.Native.Nat.{_<_};
 use input::Input;
-use libc::STDERR_FILENO;
 use libc::STDOUT_FILENO;
 use records::reading::joined;
 use text::Stop;
@@ -81,12 +80,9 @@ fn main() {
         return;
     }
     let mut file = [0u8; 262144];
-    let Input::Whole(n) = input::read(&mut file) else {
+    let Input::Whole(n) = input::read_shorter(&mut file, b"scripts: more than 262,143 bytes\n")
+    else {
         return;
     };
-    if n == file.len() {
-        io::write_all(STDERR_FILENO, b"scripts: more than 262,143 bytes\n");
-        return;
-    }
     show_all(&file[..n]);
 }

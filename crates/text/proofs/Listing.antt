@@ -9,7 +9,7 @@ use lib.ListN.{length, replicate, length-replicate}
 use Rattle.wire.specs.Buffer.{Written}
 use Rattle.records.proofs.Choices.{by-cond}
 use Rattle.text.specs.Words.{Hex, wordAt, textOf, same, hexOf, countOf}
-use Rattle.text.specs.Lists.{Expected, counted, repeated, started, itemAt, listFor, listOf, Reads}
+use Rattle.text.specs.Lists.{Expected, withCount, repeated, started, itemAt, listFor, listOf, Reads}
 use Rattle.text.specs.declared.lists.Item.{Item}
 use Rattle.text.specs.declared.lists.Item.the-variants as i
 use Rattle.text.specs.declared.numbers.Hex.the-variants as h
@@ -25,14 +25,14 @@ module _ (t : List ℕ) (p : ℕ) (k : p ≤ length t) where
   Forward i.End = Unit {0}
   Forward (i.Wrong q e) = Unit {0}
 
-  counted-forward : (b q : ℕ) → p < q → q ≤ length t → Forward (counted t b (wordAt t q))
+  count-forward : (b q : ℕ) → p < q → q ≤ length t → Forward (withCount t b (wordAt t q))
   unfolding Forward
-  counted-forward b q l m = by-cond Forward (eqb (countOf (textOf t (wordAt t q))) 0) (λ _. tt) (λ _. (omega (arith, word-after t q, word-forward t q), word-within t q m))
+  count-forward b q l m = by-cond Forward (eqb (countOf (textOf t (wordAt t q))) 0) (λ _. tt) (λ _. (omega (arith, word-after t q, word-forward t q), word-within t q m))
 
   repeated-forward : (b q : ℕ) → p < q → q ≤ length t → Forward (repeated t b q (wordAt t q))
   unfolding Forward
   repeated-forward b q l m =
-      by-cond Forward (same (textOf t (wordAt t q)) (0x78 ∷ [])) (λ _. counted-forward b (wordAt t q .end) (omega (arith, word-after t q, word-forward t q)) (word-within t q m)) (λ _. (l, m))
+      by-cond Forward (same (textOf t (wordAt t q)) (0x78 ∷ [])) (λ _. count-forward b (wordAt t q .end) (omega (arith, word-after t q, word-forward t q)) (word-within t q m)) (λ _. (l, m))
 
   started-forward : (v : Hex) → p < wordAt t p .end → Forward (started t (wordAt t p) v)
   unfolding Forward

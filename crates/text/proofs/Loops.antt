@@ -7,8 +7,8 @@ use native.Mathlib.Omega.{arith}
 use lib.ListN.{length}
 use Rattle.wire.specs.Buffer.{Written}
 use Rattle.wire.proofs.Buffers.{overwrite-length}
-use Rattle.text.specs.Lists.{Read, Stop, Assembled, read, after, Reads}
-use Rattle.text.proofs.Reading.{reads-none, reads-after}
+use Rattle.text.specs.Lists.{Read, Stop, Assembled, read, prefixed, Reads}
+use Rattle.text.proofs.Reading.{reads-none, reads-prefixed}
 
 -- at the loop's head: o and x are the buffer at the start and now; there are turns enough for what is left, and reading the rest
 -- reads the whole
@@ -37,14 +37,14 @@ module _ {whole : Read} {o : List ℕ} {from : ℕ} {rest : ℕ → Read} {left 
   loop-ends w e = last-turn (read [] w) e (reads-none x size w (omega (arith, l .within, l .same)))
 
   -- the turn writes xs, and less is left after it
-  pub loop-on : (xs : List ℕ) (next : ℕ → Read) (less : ℕ) → ((n : ℕ) → rest (suc n) ≡ after xs (next n)) → less < left → {y : List ℕ} {k : ℕ} → Written x size xs y k → k ≤ length o → Loop whole o from next less y k
+  pub loop-on : (xs : List ℕ) (next : ℕ → Read) (less : ℕ) → ((n : ℕ) → rest (suc n) ≡ prefixed xs (next n)) → less < left → {y : List ℕ} {k : ℕ} → Written x size xs y k → k ≤ length o → Loop whole o from next less y k
   loop-on xs next less e h {y} {k} w j =
       by-turn
       (λ n m f.
       record {
         turns = n;
         enough = omega (arith, h, m);
-        reads = λ z r q. f z r (rw (e n) (reads-after x size xs (next n) w q));
+        reads = λ z r q. f z r (rw (e n) (reads-prefixed x size xs (next n) w q));
         within = j;
         same = ap length (w .bytes) ∙ overwrite-length x size xs ∙ l .same;
       })

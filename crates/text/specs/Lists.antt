@@ -24,15 +24,16 @@ pub record Read : Type 0 where
 abbrev pub read : List ℕ → Stop → Read
 read xs w = record { bytes = xs; stop = w }
 
-abbrev pub after : List ℕ → Read → Read
-after xs r = read (xs ++ r .bytes) (r .stop)
+-- with bytes that were read before it
+abbrev pub prefixed : List ℕ → Read → Read
+prefixed xs r = read (xs ++ r .bytes) (r .stop)
 
 -- ONE ITEM of a list: a byte, or so many of it
-abbrev pub counted : List ℕ → ℕ → Word → Item
-counted t b w = cond (eqb (countOf (textOf t w)) 0) (i.Wrong (w .start) x.Count) (i.Bytes b (countOf (textOf t w)) (w .end))
+abbrev pub withCount : List ℕ → ℕ → Word → Item
+withCount t b w = cond (eqb (countOf (textOf t w)) 0) (i.Wrong (w .start) x.Count) (i.Bytes b (countOf (textOf t w)) (w .end))
 
 abbrev pub repeated : List ℕ → ℕ → ℕ → Word → Item
-repeated t b end w = cond (same (textOf t w) (0x78 ∷ [])) (counted t b (wordAt t (w .end))) (i.Bytes b 1 end)
+repeated t b end w = cond (same (textOf t w) (0x78 ∷ [])) (withCount t b (wordAt t (w .end))) (i.Bytes b 1 end)
 
 abbrev pub started : List ℕ → Word → Hex → Item
 started t w (h.Byte b) = repeated t b (w .end) (wordAt t (w .end))
@@ -45,16 +46,16 @@ unfoldable pub itemAt : List ℕ → ℕ → Item
 itemAt t p = begun t (wordAt t p)
 
 -- with an item read, at a place with room for so many bytes: it and the rest of the list, or the list's end
-abbrev pub listed : ℕ → ℕ → (ℕ → ℕ → Read) → Item → Read
-listed room p rest (i.Bytes b k next) = cond (leb k room) (after (replicate k b) (rest (room - k) next)) (read [] (s.Wrong p x.Room))
-listed room p rest i.End = read [] s.Done
-listed room p rest (i.Wrong q e) = read [] (s.Wrong q e)
+abbrev pub itemAndRest : ℕ → ℕ → (ℕ → ℕ → Read) → Item → Read
+itemAndRest room p rest (i.Bytes b k next) = cond (leb k room) (prefixed (replicate k b) (rest (room - k) next)) (read [] (s.Wrong p x.Room))
+itemAndRest room p rest i.End = read [] s.Done
+itemAndRest room p rest (i.Wrong q e) = read [] (s.Wrong q e)
 
 -- THE LIST with room for so many bytes from a place on, in so many items. An item takes a byte of the text or is the last, so the
 -- text's length and one are enough.
 unfoldable pub listFor : ℕ → List ℕ → ℕ → ℕ → Read
 listFor zero t room p = read [] s.Done
-listFor (suc n) t room p = listed room p (listFor n t) (itemAt t p)
+listFor (suc n) t room p = itemAndRest room p (listFor n t) (itemAt t p)
 
 unfoldable pub listOf : List ℕ → ℕ → ℕ → Read
 listOf t room p = listFor (suc (length t)) t room p

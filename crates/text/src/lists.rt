@@ -3,7 +3,7 @@ ghost use mathlib.Core.Path.{_≡_};
 ghost use Prim.Native.Nat.{_+_, _-_, _≤_};
 ghost use lib.ListN.{length, replicate};
 ghost use Rattle.wire.specs.Buffer.{Written};
-ghost use Rattle.text.specs.Lists.{counted, repeated, begun, itemAt, listOf, Reads};
+ghost use Rattle.text.specs.Lists.{withCount, repeated, begun, itemAt, listOf, Reads};
 use crate::Assembled;
 use crate::Expected;
 use crate::Stop;
@@ -20,9 +20,9 @@ pub(crate) enum Item {
 }
 
 // The count of a byte, which the word has to be. The caller shows that the word lies in the text.
-fn counted(text: &[u8], byte: u8, w: Word) -> Item
+fn with_count(text: &[u8], byte: u8, w: Word) -> Item
     requires { ⌜ (w .start ≤ w .end) × (w .end ≤ length (now text)) ⌝ }
-    ensures { λ r. ⌜ r ≡ counted (now (text .entry)) byte w ⌝ }
+    ensures { λ r. ⌜ r ≡ withCount (now (text .entry)) byte w ⌝ }
 {
     let place = w.start;
     let next = w.end;
@@ -48,7 +48,7 @@ fn repeated(text: &[u8], byte: u8, end: usize, w: Word) -> Item
     let from = w.start;
     let to = w.end;
     if check::same(&text[from..to], b"x") {
-        return counted(text, byte, word_at(text, to));
+        return with_count(text, byte, word_at(text, to));
     }
     Item::Bytes {
         byte,

@@ -6,10 +6,10 @@ ghost use Rattle.text.specs.Named.{rowNamed};
 pub fn row_named(word: &[u8]) -> usize
     ensures { λ r. ⌜ r ≡ rowNamed (now (word .entry)) ⌝ }
 {
-    if names::WIDTH < word.len() {
+    if names::NAME_WIDTH < word.len() {
         return names::ROWS;
     }
-    let mut padded = [b' '; names::WIDTH];
+    let mut padded = [b' '; names::NAME_WIDTH];
     bytes::copy(word, &mut padded);
     let mut row: usize = 0;
     while row < names::ROWS {

@@ -2,7 +2,7 @@
 ghost use mathlib.Core.Path.{_≡_};
 ghost use Rattle.text.specs.Words.{digitOf, hexOf, countOf};
 
-// A byte in hex, or no such.
+// A byte in hex, or none.
 pub(crate) enum Hex {
     Byte(u8),
     None,

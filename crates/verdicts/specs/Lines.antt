@@ -10,10 +10,10 @@ use Rattle.grammar.specs.declared.Verdict.{Verdict}
 use Rattle.grammar.specs.declared.Verdict.the-variants as v
 
 -- a verdict's line; a place goes by its decimal digits, with no zeros in front, of which there are so many
-abbrev pub lineOf : Verdict → ℕ → List ℕ
-lineOf v.Whole n = bytes "whole\n"
-lineOf v.Open n = bytes "open\n"
-lineOf (v.Wrong k) n = bytes "wrong at " ++ digits 10 n k ++ bytes "\n"
+abbrev pub verdictLine : Verdict → ℕ → List ℕ
+verdictLine v.Whole n = bytes "whole\n"
+verdictLine v.Open n = bytes "open\n"
+verdictLine (v.Wrong k) n = bytes "wrong at " ++ digits 10 n k ++ bytes "\n"
 
 -- so many digits are a verdict's
 abbrev pub HasDigits : Verdict → ℕ → Type 0
@@ -22,8 +22,8 @@ HasDigits v.Open n = n ≡ 0
 HasDigits (v.Wrong k) n = Fewest 10 1 k n
 
 -- a verdict's line is written to the front of a buffer, which held o and then holds x, up to a place within it
-pub record Said (v : Verdict) (o x : List ℕ) (next : ℕ) : Type 0 where
+pub record LineWritten (v : Verdict) (o x : List ℕ) (next : ℕ) : Type 0 where
   pub places : ℕ
   pub fewest : HasDigits v places
-  pub wrote : Written o 0 (lineOf v places) x next
+  pub wrote : Written o 0 (verdictLine v places) x next
   pub counts : Counts next x

@@ -2,7 +2,7 @@
 ghost use Prim.Native.Nat.{_≤_};
 ghost use lib.ListN.{length};
 ghost use Rattle.grammar.specs.declared.Verdict.the-variants.{Wrong};
-ghost use Rattle.verdicts.specs.Lines.{Said};
+ghost use Rattle.verdicts.specs.Lines.{LineWritten};
 use grammar::Verdict;
 
 // The most bytes of a place's decimal digits, and room for any line.
@@ -13,7 +13,7 @@ pub const ROOM: usize = 32;
 // The caller shows room for any line.
 fn put_wrong(out: &mut [u8], place: usize) -> usize
     requires { ⌜ 32 ≤ length (now out) ⌝ }
-    ensures { λ n. ⌜ Said (Wrong place) (now (out .entry)) (now (out .exit)) n ⌝ }
+    ensures { λ n. ⌜ LineWritten (Wrong place) (now (out .entry)) (now (out .exit)) n ⌝ }
 {
     let mut digits = [0u8; DIGITS];
     let count = io::decimal(place as u64, &mut digits);
@@ -22,9 +22,9 @@ fn put_wrong(out: &mut [u8], place: usize) -> usize
     wire::put_bytes(out, next, b"\n")
 }
 
-// Writes a verdict as a line, `whole`, `open` or `wrong at K`, to the front of a buffer, and answers how many bytes that are.
+// Writes a verdict as a line, `whole`, `open` or `wrong at K`, to the front of a buffer, and answers how many bytes it wrote.
 pub fn put_verdict(out: &mut [u8; ROOM], v: Verdict) -> usize
-    ensures { λ n. ⌜ Said v (now (out .entry)) (now (out .exit)) n ⌝ }
+    ensures { λ n. ⌜ LineWritten v (now (out .entry)) (now (out .exit)) n ⌝ }
 {
     match v {
         Verdict::Whole => wire::put_bytes(out, 0, b"whole\n"),

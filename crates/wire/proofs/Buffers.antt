@@ -26,7 +26,7 @@ pub written-whole : (l xs : List ℕ) {r : List ℕ} {next : ℕ} → length l �
 written-whole l xs e w =
     w .bytes ∙ overwrite-right l 0 xs .parts (omega arith) ∙ ap (λ (r : List ℕ). xs ++ r) (drop-of-length-le l {i = 0 + length xs} (omega arith)) ∙ append-nil xs
 
--- a mark past the end leaves room for nothing, not even for no byte
+-- a mark past the end leaves room for nothing, not even for zero bytes
 pub past-the-end : (size mark need : ℕ) → size < mark → fitsIn size mark need ≡ false
 past-the-end size mark need h = lt-leb (mark + need) size (omega arith)
 

@@ -82,7 +82,7 @@ pub fn put_action(out: &mut [u8], verb: u8, line: u8, value: u16) -> usize
     put_bytes(out, 0, &[verb, line, low, high])
 }
 
-// Whether so many bytes fit after a mark; a mark past the end leaves room for nothing, not even for no byte.
+// Whether so many bytes fit after a mark; a mark past the end leaves room for nothing, not even for zero bytes.
 pub fn fits(size: usize, mark: usize, need: usize) -> bool
     ensures { λ r. ⌜ r ≡ fitsIn size mark need ⌝ }
 {

@@ -1,6 +1,6 @@
--- At each code the table gives its words, and at no other any.
+-- The table has words for each code, and for no other number.
 use mathlib.Core.Path.{sym, ap}
-use Rattle.codes.specs.Codes.{means, passes, table, wordsIn, wordsOf}
+use Rattle.codes.specs.Codes.{means, passes, codeTable, wordsIn, wordsOf}
 use Rattle.codes.proofs.Lookup.{missed}
 use Rattle.codes.proofs.words.Statement.{statement}
 use Rattle.codes.proofs.words.Tie as tie
@@ -17,4 +17,4 @@ words-spec =
     (λ c. sym (ap wordsOf (c .before .before .match .keys6)))
     (λ c. sym (ap wordsOf (c .before .before .match .keys7)))
     (λ c. sym (ap wordsOf (c .before .before .match .keys8)))
-    (λ c. ap wordsIn (missed (means "" passes) (Unit {0}) table (c .before .args .code) (c .match .rest))))
+    (λ c. ap wordsIn (missed (means "" passes) (Unit {0}) codeTable (c .before .args .code) (c .match .rest))))

@@ -6,12 +6,12 @@ use Prim.Native.Nat.{_≤_, _-_}
 use native.Mathlib.Omega.{arith}
 use lib.ListN.{length}
 use Rattle.grammar.specs.Scanner.{between}
-use Rattle.grammar.proofs.Scans.{Read, standing, turn-wrong, turn-extension, turn-open, turn-item, turn-end}
+use Rattle.grammar.proofs.Scans.{ReadTo, standing, turn-wrong, turn-extension, turn-open, turn-item, turn-end}
 use Rattle.grammar.proofs.judge.Statement.{statement}
 use Rattle.grammar.proofs.judge.Tie as tie
 
 abbrev Inv-loop : tie.InvT-loop
-Inv-loop bytes at₀ extended₀ i₀ at extended i = (i ≤ length bytes) × Read bytes (between at₀) (standing at extended) i
+Inv-loop bytes at₀ extended₀ i₀ at extended i = (i ≤ length bytes) × ReadTo bytes (between at₀) (standing at extended) i
 
 abbrev μ-loop : tie.MeasureT-loop
 μ-loop bytes at₀ extended₀ i₀ at extended i = length bytes - i

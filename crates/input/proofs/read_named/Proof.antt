@@ -1,4 +1,4 @@
--- What was read, or the failure that was said.
+-- What was read, or the failure that was reported.
 use borrow.Author.Needs.{needs}
 use Rattle.input.proofs.read_named.Statement.{statement}
 use Rattle.input.proofs.read_named.Tie as tie

@@ -5,13 +5,13 @@ use mathlib.Core.Path.{_≡_, refl, sym, ap, _∙_}
 use mathlib.Core.Bool.{Bool, _&&_, Bool·beq}
 use lib.Dec.{eqb}
 use lib.ListN.{getD, drop}
-use Rattle.names.specs.Names.{codes, isExtended, firstWhere, hasCode, rowOf}
+use Rattle.names.specs.Names.{codes, isExtended, firstWhere, hasCode, rowCoded}
 use Rattle.names.proofs.Rows.{found-here, passed-over}
 use Rattle.names.proofs.find.Statement.{statement}
 use Rattle.names.proofs.find.Tie as tie
 
 abbrev Inv-loop : tie.InvT-loop
-Inv-loop code is-extended row₀ row = (row ≤ 74) × (firstWhere (hasCode code is-extended) row (drop row codes) ≡ rowOf code is-extended)
+Inv-loop code is-extended row₀ row = (row ≤ 74) × (firstWhere (hasCode code is-extended) row (drop row codes) ≡ rowCoded code is-extended)
 
 abbrev μ-loop : tie.MeasureT-loop
 μ-loop code is-extended row₀ row = 74 - row
@@ -20,12 +20,12 @@ abbrev μ-loop : tie.MeasureT-loop
 tested : (n c : ℕ) (x e : Bool) {t : Bool} → x ≡ isExtended n → eqb (getD codes n 0) c && Bool·beq x e ≡ t → hasCode c e n (getD codes n 0) ≡ t
 tested n c x e q h = ap (λ (y : Bool). eqb (getD codes n 0) c && Bool·beq y e) (sym q) ∙ h
 
-last-row : (n c : ℕ) (e : Bool) → n ≡ 74 → firstWhere (hasCode c e) n (drop n codes) ≡ rowOf c e → 74 ≡ rowOf c e
+last-row : (n c : ℕ) (e : Bool) → n ≡ 74 → firstWhere (hasCode c e) n (drop n codes) ≡ rowCoded c e → 74 ≡ rowCoded c e
 unfolding firstWhere
 last-row n c e h q = ap (λ (m : ℕ). firstWhere (hasCode c e) m (drop m codes)) (sym h) ∙ q
 
 loop-holds : tie.Need-loop-holds Inv-loop μ-loop
-unfolding rowOf
+unfolding rowCoded
 loop-holds c = (search needs, refl)
 
 returns : tie.Need-returns Inv-loop μ-loop

@@ -3,7 +3,7 @@ use borrow.Author.Needs.{needs}
 use mathlib.Core.Path.{refl}
 use native.Mathlib.Omega.{arith}
 use Rattle.grammar.specs.declared.Verdict.the-variants.{Whole, Open}
-use Rattle.verdicts.proofs.Lines.{said}
+use Rattle.verdicts.proofs.Lines.{line-written}
 use Rattle.verdicts.proofs.put_verdict.Statement.{statement}
 use Rattle.verdicts.proofs.put_verdict.Tie as tie
 
@@ -19,6 +19,6 @@ put-verdict-spec =
     (λ c κs. search needs)
     (λ c. search needs)
     (λ c κs. search needs)
-    (λ c. rw (c .before .before .before .enum-told .given .1) (said Whole 0 refl (c .put-bytes .ensures) (search needs)))
-    (λ c. rw (c .before .before .before .enum-told2 .given .1) (said Open 0 refl (c .put-bytes2 .ensures) (search needs)))
+    (λ c. rw (c .before .before .before .enum-told .given .1) (line-written Whole 0 refl (c .put-bytes .ensures) (search needs)))
+    (λ c. rw (c .before .before .before .enum-told2 .given .1) (line-written Open 0 refl (c .put-bytes2 .ensures) (search needs)))
     (λ c. rw (c .before .before .before .v .given .1) (c .put-wrong .ensures)))

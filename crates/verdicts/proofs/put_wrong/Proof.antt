@@ -1,7 +1,7 @@
 -- Its three parts are written one after another.
 use borrow.Author.Needs.{needs}
 use native.Mathlib.Omega.{arith}
-use Rattle.verdicts.proofs.Lines.{few-digits, written-length, said-wrong}
+use Rattle.verdicts.proofs.Lines.{few-digits, written-length, wrong-written}
 use Rattle.verdicts.proofs.put_wrong.Statement.{statement}
 use Rattle.verdicts.proofs.put_wrong.Tie as tie
 
@@ -30,4 +30,4 @@ put-wrong-spec =
     let v = c .before .before .before .before .before .before .before .put-bytes2 .ensures in
     let w = c .before .before .put-bytes3 .ensures in
     let d = c .before .before .before .before .before .before .before .before .before .before .before .before .before .before .before .decimal .ensures in
-    said-wrong (c .before .before .before .before .before .before .before .before .before .before .before .before .before .before .before .before .before .before .args .place) (c .before .before .before .before .before .before .before .before .before .before .before .before .before .before .before .decimal .result) _ (d .1 .0) (d .1 .1) (omega (arith, d .0 .1, few-digits (c .before .before .before .before .before .before .before .before .before .before .before .before .before .before .before .before .before .before .args .place) (c .before .before .before .before .before .before .before .before .before .before .before .before .before .before .before .decimal .result) (omega arith) (d .1 .0))) (c .before .before .before .before .before .before .before .before .before .before .before .before .before .before .before .before .before .before .pre) u v w))
+    wrong-written (c .before .before .before .before .before .before .before .before .before .before .before .before .before .before .before .before .before .before .args .place) (c .before .before .before .before .before .before .before .before .before .before .before .before .before .before .before .decimal .result) _ (d .1 .0) (d .1 .1) (omega (arith, d .0 .1, few-digits (c .before .before .before .before .before .before .before .before .before .before .before .before .before .before .before .before .before .before .args .place) (c .before .before .before .before .before .before .before .before .before .before .before .before .before .before .before .decimal .result) (omega arith) (d .1 .0))) (c .before .before .before .before .before .before .before .before .before .before .before .before .before .before .before .before .before .before .pre) u v w))

@@ -1,4 +1,4 @@
--- A line's level goes by whether its sample is 0.
+-- A line is low exactly if its sample is 0.
 use mathlib.Core.Path.{_∙_, ap}
 use borrow.Author.Needs.{needs}
 use Rattle.wire.specs.Sample.{levelOf}

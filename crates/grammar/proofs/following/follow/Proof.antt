@@ -7,11 +7,11 @@ use native.Mathlib.Omega.{arith}
 use lib.ListN.{length, getD, drop, drop-of-length-le}
 use lib.Seq.{drop-cons}
 use Rattle.grammar.specs.Scanner.{Scanner, scan}
-use Rattle.grammar.specs.Following.{passing, followed}
+use Rattle.grammar.specs.Following.{scannerAfter, followed}
 use Rattle.grammar.proofs.following.follow.Statement.{statement}
 use Rattle.grammar.proofs.following.follow.Tie as tie
 
-one-more : (bs : List ℕ) (g₀ g h : Scanner) (i : ℕ) → i < length bs → h ≡ passing g (scan g (getD bs i 0)) → followed g (drop i bs) ≡ followed g₀ bs → followed h (drop (i + 1) bs) ≡ followed g₀ bs
+one-more : (bs : List ℕ) (g₀ g h : Scanner) (i : ℕ) → i < length bs → h ≡ scannerAfter g (scan g (getD bs i 0)) → followed g (drop i bs) ≡ followed g₀ bs → followed h (drop (i + 1) bs) ≡ followed g₀ bs
 unfolding followed
 one-more bs g₀ g h i l e q =
     let n : i + 1 ≡ suc i = omega arith in
@@ -38,5 +38,5 @@ follow-spec =
     (λ c κs. search needs)
     (λ c. search needs)
     (λ c. search needs)
-    (λ c. let m = c .before .before .before in (search needs, one-more (m .before .before .args .bytes .now) _ (m .loop .g) _ (m .loop .i) (search needs) (c .pass .ensures) (m .loop .inv .1)))
+    (λ c. let m = c .before .before .before in (search needs, one-more (m .before .before .args .bytes .now) _ (m .loop .g) _ (m .loop .i) (search needs) (c .scanner-after .ensures) (m .loop .inv .1)))
     (λ c. let m = c .before in at-end (m .before .before .args .bytes .now) _ (m .loop .g) (m .loop .i) (search needs) (m .loop .inv .1)))

@@ -6,4 +6,4 @@ use Rattle.grammar.proofs.following.start.Statement.{statement}
 use Rattle.grammar.proofs.following.start.Tie as tie
 
 pub start-spec : {M : Type 1} → statement M
-start-spec = tie.close (tie.spec (λ c κs. search needs) (λ c. ap between (c .cleared .ensures)))
+start-spec = tie.close (tie.spec (λ c κs. search needs) (λ c. ap between (c .cleared-context .ensures)))

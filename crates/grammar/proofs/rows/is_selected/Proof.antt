@@ -5,4 +5,4 @@ use Rattle.grammar.proofs.rows.is_selected.Tie as tie
 
 pub is-selected-spec : {M : Type 1} → statement M
 is-selected-spec =
-    tie.close (tie.spec (λ c κs. search needs) (λ c κs. search needs) (λ c. rw (c .before .number-of .ensures, c .number-of2 .ensures)))
+    tie.close (tie.spec (λ c κs. search needs) (λ c κs. search needs) (λ c. rw (c .before .interface-number .ensures, c .interface-number2 .ensures)))

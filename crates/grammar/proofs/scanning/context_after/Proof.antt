@@ -21,7 +21,7 @@ context-after-spec =
     (λ c. search needs)
     (λ c κs. search needs)
     (λ c. search needs)
-    (λ c. let a = c .before .before .before .args in c .cleared .ensures ∙ sym (ap (λ (e : ContextChange). contextAfter e (a .b) (a .c)) (c .before .enum-told2 .given .1)))
+    (λ c. let a = c .before .before .before .args in c .cleared-context .ensures ∙ sym (ap (λ (e : ContextChange). contextAfter e (a .b) (a .c)) (c .before .enum-told2 .given .1)))
     (λ c. let a = c .before .before .before .args in sym (ap (λ (e : ContextChange). contextAfter e (a .b) (a .c)) (c .before .e .given .1)))
     (λ c. let a = c .before .before .args in sym (ap (λ (e : ContextChange). contextAfter e (a .b) (a .c)) (c .enum-told3 .given .1)))
     (λ c.

@@ -5,14 +5,14 @@ use mathlib.Core.Path.{refl, sym, _∙_}
 use mathlib.Core.Bool.{false≢true}
 use native.Mathlib.Omega.{arith}
 use lib.ListN.{length, drop}
-use Rattle.input.specs.Arguments.{wordsOf, Among}
+use Rattle.input.specs.Arguments.{splitAtSpaces, Among}
 use Rattle.input.proofs.Words.{among-here, among-later, among-passed, among-none}
 use Rattle.input.proofs.arguments.has_word.Statement.{statement}
 use Rattle.input.proofs.arguments.has_word.Tie as tie
 
 abbrev Inv-loop : tie.InvT-loop
 Inv-loop list word at₀ at =
-    (at ≤ suc (length list)) × (Among word (wordsOf (drop at list)) → Among word (wordsOf list)) × (Among word (wordsOf list) → Among word (wordsOf (drop at list)))
+    (at ≤ suc (length list)) × (Among word (splitAtSpaces (drop at list)) → Among word (splitAtSpaces list)) × (Among word (splitAtSpaces list) → Among word (splitAtSpaces (drop at list)))
 
 abbrev μ-loop : tie.MeasureT-loop
 μ-loop list word at₀ at = suc (length list) - at

@@ -1,4 +1,4 @@
--- Case by case; the ports' rules are one for direction and latch.
+-- Case by case; a port's direction and latch have one rule.
 use borrow.Author.Needs.{needs}
 use Rattle.registers.proofs.ports.protect.Statement.{statement}
 use Rattle.registers.proofs.ports.protect.Tie as tie

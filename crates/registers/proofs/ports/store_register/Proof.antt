@@ -1,4 +1,4 @@
--- Case by case, one field another.
+-- Case by case, with one field replaced.
 use borrow.Author.Needs.{needs}
 use Rattle.registers.proofs.ports.store_register.Statement.{statement}
 use Rattle.registers.proofs.ports.store_register.Tie as tie

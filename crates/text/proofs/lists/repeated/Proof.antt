@@ -19,5 +19,5 @@ repeated-spec =
     (λ c κs. search needs)
     (λ c κs. search needs)
     (λ c κs. let a = c .before .before .before .before .before .before .args in rw (c .word-at .ensures) (word-forward (a .text .now) (a .w .end), word-within (a .text .now) (a .w .end) (c .before .before .before .before .before .before .pre .1)))
-    (λ c. let a = c .before .before .before .before .before .before .before .args in rw (sym (same-is (textOf (a .text .now) (a .w)) (0x78 ∷ []) (c .before .before .before .same .ensures)) ∙ c .before .before .if1 .taken) (rw (c .before .word-at .ensures) at (c .counted .ensures)))
+    (λ c. let a = c .before .before .before .before .before .before .before .args in rw (sym (same-is (textOf (a .text .now) (a .w)) (0x78 ∷ []) (c .before .before .before .same .ensures)) ∙ c .before .before .if1 .taken) (rw (c .before .word-at .ensures) at (c .with-count .ensures)))
     (λ c. let a = c .before .before .before .before .before .args in rw (sym (same-is (textOf (a .text .now) (a .w)) (0x78 ∷ []) (c .before .same .ensures)) ∙ c .if1 .left)))

@@ -1,4 +1,4 @@
--- From each place on, as far as from the start.
+-- The bytes of the class end at one place, from wherever among them the search goes on.
 use borrow.Author.Needs.{needs}
 use borrow.Author.Tests.{not-true, not-false}
 use mathlib.Core.Path.{_≡_, refl, sym, _∙_}

@@ -1,0 +1,92 @@
+//! `bridge_judge` beside the reference's `judge`, over scripts that are mostly orderly for long.
+
+use crate::dice::Dice;
+use crate::image;
+use crate::random::{any_image, likely_byte, state_in_range};
+use crate::show::hex;
+use reference::actions::Lines;
+use reference::{Event, Judgement, State, Wait};
+use uart_bridge::calls;
+
+/// How many scripts were whole, open, wrong and refused.
+#[derive(Default)]
+pub struct Tally {
+    pub whole: u64,
+    pub open: u64,
+    pub wrong: u64,
+    pub refused: u64,
+}
+
+/// What both numbers behind a pointer hold before a call.
+const VERDICT: u8 = 0x5A;
+const PLACE: usize = 0x5A5A;
+
+/// So many bytes that the bridge has a use for, one after the other.
+pub fn script(dice: &mut Dice, state: &State, length: usize) -> Vec<u8> {
+    let mut state = state.clone();
+    let mut script = Vec::with_capacity(length);
+    let slips = dice.one_in(3);
+    while script.len() < length {
+        let mut after = state.clone();
+        let byte = likely_byte(dice, &state);
+        reference::step::take(&mut after, Event::Byte(byte), &mut Lines::new(&[]));
+        // A byte that is rejected stays only in scripts with slips.
+        let rejected = after.error == 0x80 || after.error == 0x40;
+        if !rejected || slips && dice.one_in(8) {
+            script.push(byte);
+            after.error = 0;
+            state = after;
+        }
+    }
+    script
+}
+
+pub fn compare(dice: &mut Dice, tally: &mut Tally) -> Result<(), String> {
+    let mut start = if dice.one_in(8) { any_image(dice) } else { state_in_range(dice) };
+    if !dice.one_in(12) && start.len() == image::SIZE {
+        start[image::WAIT] = 0;
+        start[image::LEFT] = 0;
+    }
+    let state = image::state(&start);
+    let length = match dice.below(5_000) {
+        0 => dice.between(60_000, 200_000),
+        1..=99 => dice.below(3_000),
+        100..=999 => dice.below(4),
+        _ => dice.below(60),
+    };
+    let mut from = state.clone().filter(State::in_range).unwrap_or_else(reference::factory_start);
+    from.wait = Wait::Nothing;
+    from.error = 0;
+    let mut bytes = script(dice, &from, length);
+    if !bytes.is_empty() && dice.one_in(8) {
+        let place = dice.below(bytes.len());
+        bytes[place] = dice.byte();
+    }
+    let bytes = bytes.into_boxed_slice();
+
+    let (mut verdict, mut place) = (Box::new(VERDICT), Box::new(PLACE));
+    let refusal = calls::judge(&start, &bytes, &mut verdict, &mut place);
+    let library = (refusal, *verdict, *place);
+    let judgement = state.map_or(Judgement::Refused(1), |state| reference::judge(&state, &bytes));
+    // The place of what is not wrong is 0.
+    let reference = match judgement {
+        Judgement::Whole => (0, calls::WHOLE, 0),
+        Judgement::Open => (0, calls::OPEN, 0),
+        Judgement::WrongAt(place) => (0, calls::WRONG, place),
+        Judgement::Refused(number) => (number, VERDICT, PLACE),
+    };
+    if library != reference {
+        return Err(format!(
+            "judge\nstart {}\nbytes {}\nlibrary   (refusal, verdict, place) {library:x?}\nreference (refusal, verdict, place) {reference:x?}\n",
+            hex(&start),
+            hex(&bytes)
+        ));
+    }
+    match judgement {
+        Judgement::Whole => tally.whole += 1,
+        Judgement::Open => tally.open += 1,
+        Judgement::WrongAt(_) => tally.wrong += 1,
+        Judgement::Refused(_) => tally.refused += 1,
+    }
+    Ok(())
+}

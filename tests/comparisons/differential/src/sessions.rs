@@ -1,0 +1,252 @@
+//! `bridge_replay` beside the reference's `replay`: whole sessions in chunks of any size, and calls from wild cursors.
+
+use crate::dice::Dice;
+use crate::image;
+use crate::random::{any_image, likely_byte, samples};
+use crate::show::{hex, parting};
+use reference::actions::Lines;
+use reference::{Event, State};
+use uart_bridge::calls::{self, Cursor, REPLAY_ROOM};
+use uart_bridge::Replay;
+
+const LONGEST_BODY: usize = 4_096;
+
+/// How many sessions, their bytes, the bytes of their transcripts, the calls made, and how each ended: 0 is a whole session.
+#[derive(Default)]
+pub struct Tally {
+    pub sessions: u64,
+    pub bytes: u64,
+    pub transcripts: u64,
+    pub calls: u64,
+    pub by_refusal: [u64; 13],
+    pub wild: u64,
+}
+
+fn record(out: &mut Vec<u8>, kind: u16, body: &[u8]) {
+    out.extend((body.len() as u16).to_le_bytes());
+    out.extend(kind.to_le_bytes());
+    out.extend(body);
+}
+
+/// Bytes for a state, which they change, and the samples that they use.
+fn bytes_for(dice: &mut Dice, state: &mut State, count: usize) -> (Vec<u8>, usize) {
+    let mut used = 0;
+    let bytes = (0..count).map(|_| {
+        let byte = likely_byte(dice, state);
+        let mut lines = Lines::new(&[]);
+        reference::step::take(state, Event::Byte(byte), &mut lines);
+        used += lines.used();
+        byte
+    });
+    (bytes.collect(), used)
+}
+
+/// A record that can't be taken, of any sort, or what is left of one.
+fn broken(dice: &mut Dice, out: &mut Vec<u8>) {
+    match dice.below(8) {
+        0 => {
+            let left = dice.between(1, 3);
+            out.extend(dice.bytes(left));
+        }
+        1 => {
+            let length = if dice.one_in(2) { 4_097 } else { dice.between(4_097, 65_535) } as u16;
+            out.extend(length.to_le_bytes());
+            out.extend(dice.pick(&[0u16, 1, 2, 3, 0x0100]).to_le_bytes());
+        }
+        2 => {
+            let length = dice.between(1, LONGEST_BODY);
+            out.extend((length as u16).to_le_bytes());
+            out.extend(dice.pick(&[0u16, 1, 2, 3, 0x0201]).to_le_bytes());
+            let present = if dice.one_in(2) { length - 1 } else { dice.below(length) };
+            out.extend(dice.bytes(present));
+        }
+        3 | 4 => {
+            let kind = dice.pick(&[0, 4, 5, 0x0100, 0x0101, 0x0102, 0x0103, 0x0200, 0x0300, 0xFFFF]);
+            let length = dice.below(5);
+            record(out, kind, &dice.bytes(length));
+        }
+        5 => record(out, 2, &[dice.pick(&[0x00, 0x80, 0x84, 0xFF])]),
+        6 => record(out, 2, &[]),
+        _ => record(out, 2, &[0x81, 0x82]),
+    }
+}
+
+pub fn session(dice: &mut Dice) -> Vec<u8> {
+    let aim = match dice.below(400) {
+        0 => dice.pick(&[32_760, 32_767, 32_768, 32_769, 33_000, 40_000]),
+        1..=8 => dice.below(9_000),
+        9..=20 => 0,
+        _ => dice.below(400),
+    };
+    // Few sessions break off, so that many get to their end.
+    let (breaks, lacks) = (dice.one_in(6), dice.one_in(6));
+    let mut state = reference::factory_start();
+    let mut out = Vec::new();
+    while out.len() < aim {
+        let sort = dice.below(16);
+        if sort == 0 {
+            record(&mut out, 2, &[dice.pick(&[0x81, 0x82, 0x83])]);
+        } else if sort == 1 && breaks {
+            broken(dice, &mut out);
+        } else if sort == 2 {
+            let count = dice.below(20);
+            record(&mut out, 3, &samples(dice, count));
+        } else {
+            let count = if dice.one_in(40) { dice.between(1, 700) } else { dice.below(40) };
+            let (bytes, used) = bytes_for(dice, &mut state, count);
+            let lent = if lacks && dice.one_in(8) { dice.below(used + 1) } else { used + dice.below(3) };
+            // What one record can't hold is not lent, and the session ends there.
+            if used > 0 || dice.one_in(4) {
+                record(&mut out, 3, &samples(dice, lent.min(LONGEST_BODY)));
+            }
+            record(&mut out, 1, &bytes);
+        }
+    }
+    if aim >= 32_760 {
+        fill(&mut out, aim);
+    } else if breaks && dice.one_in(3) {
+        out.truncate(dice.below(out.len() + 1));
+    }
+    out
+}
+
+/// Cuts a session at the last record that leaves room, and fills it with samples to just so many bytes.
+fn fill(out: &mut Vec<u8>, aim: usize) {
+    let mut place = 0;
+    while let Some(&[low, high, ..]) = out.get(place..) {
+        let next = place + 4 + usize::from(u16::from_le_bytes([low, high]));
+        if next + 4 > aim || next > out.len() {
+            break;
+        }
+        place = next;
+    }
+    out.truncate(place);
+    while out.len() < aim {
+        let left = aim - out.len();
+        let body =
+            if left >= 4 + LONGEST_BODY + 4 { LONGEST_BODY } else { (left.max(4) - 4).min(LONGEST_BODY) };
+        record(out, 3, &vec![0; body]);
+    }
+    out.truncate(aim);
+}
+
+pub fn compare(dice: &mut Dice, tally: &mut Tally) -> Result<(), String> {
+    let session = session(dice).into_boxed_slice();
+    let reference = reference::replay(&session);
+    let tell = |what: &str| format!("replay\nsession {}\n{what}", hex(&session));
+    let library = in_chunks(dice, &session, &mut tally.calls).map_err(|what| tell(&what))?;
+    if library != reference {
+        return Err(tell(&parting("transcripts", &library, &reference)));
+    }
+    if dice.one_in(8) {
+        let wrapped: Vec<u8> = Replay::with_room(&session, dice.below(5_000)).flatten().collect();
+        if wrapped != reference {
+            return Err(tell(&parting("the wrapper's transcripts", &wrapped, &reference)));
+        }
+    }
+    tally.sessions += 1;
+    tally.bytes += session.len() as u64;
+    tally.transcripts += reference.len() as u64;
+    let refused = reference.len() >= 10 && reference[reference.len() - 10..][..4] == [6, 0, 0xFF, 0x01];
+    tally.by_refusal[if refused { usize::from(reference[reference.len() - 6]) } else { 0 }] += 1;
+    Ok(())
+}
+
+/// The library's transcript, by calls with random room, of which those with too little must do nothing.
+fn in_chunks(dice: &mut Dice, session: &[u8], made: &mut u64) -> Result<Vec<u8>, String> {
+    let state = image::image(&reference::factory_start()).into_vec();
+    let mut cursor = Cursor { state, at: 0, end: 0, sample: 0, sampled: 0, done: 0 };
+    let mut transcript = Vec::new();
+    let generous = dice.one_in(2);
+    while cursor.done == 0 {
+        if dice.one_in(6) {
+            let room = less_room(dice);
+            idle(dice, &cursor, session, room)?;
+            *made += 1;
+        }
+        let room = match (generous, dice.below(4)) {
+            (true, _) => dice.between(REPLAY_ROOM, 40_000),
+            (_, 0) => REPLAY_ROOM,
+            _ => dice.between(REPLAY_ROOM, 3_000),
+        };
+        let before = cursor.clone();
+        let chunk = call(dice, &mut cursor, session, room)?;
+        *made += 1;
+        if chunk.is_empty() && cursor == before {
+            return Err(format!("a call with {room} bytes of output gets no further from {before:?}\n"));
+        }
+        transcript.extend(chunk);
+    }
+    // Over is over.
+    idle(dice, &cursor, session, 2_000)?;
+    Ok(transcript)
+}
+
+/// Less room than a call needs to get further.
+fn less_room(dice: &mut Dice) -> usize {
+    if dice.one_in(3) {
+        dice.pick(&[0, 1, 5, 10, REPLAY_ROOM - 1])
+    } else {
+        dice.below(REPLAY_ROOM)
+    }
+}
+
+/// A call that must change nothing.
+fn idle(dice: &mut Dice, cursor: &Cursor, session: &[u8], room: usize) -> Result<(), String> {
+    let mut after = cursor.clone();
+    let chunk = call(dice, &mut after, session, room)?;
+    if !chunk.is_empty() || after != *cursor {
+        return Err(format!(
+            "a call with {room} bytes of output goes from {cursor:?} to {after:?} and writes {}\n",
+            hex(&chunk)
+        ));
+    }
+    Ok(())
+}
+
+/// One call; what lies beyond the bytes written must be as it was.
+fn call(dice: &mut Dice, cursor: &mut Cursor, session: &[u8], room: usize) -> Result<Vec<u8>, String> {
+    let fill = dice.byte();
+    let mut output = vec![fill; room].into_boxed_slice();
+    let mut written = Box::new(0x5A5A);
+    let refusal = calls::replay(cursor, session, &mut output, &mut written);
+    if refusal != 0 || *written > room {
+        return Err(format!("a call with {room} bytes of output answers {refusal} and {written} bytes\n"));
+    }
+    if output[*written..].iter().any(|&byte| byte != fill) {
+        return Err(format!("a call with {room} bytes of output writes beyond its {written} bytes\n"));
+    }
+    Ok(output[..*written].to_vec())
+}
+
+/// A call from any cursor at all. The reference has none, so only what holds for every call is looked at: 1 exactly if the image is
+/// no state, nothing changed then, and nothing written beyond the bytes counted.
+pub fn wild(dice: &mut Dice, tally: &mut Tally) -> Result<(), String> {
+    let session = session(dice).into_boxed_slice();
+    let number = |dice: &mut Dice| match dice.below(6) {
+        0 => usize::MAX - dice.below(5),
+        1 => dice.number() as usize,
+        2 => session.len() + dice.below(3),
+        _ => dice.below(session.len() + 1),
+    };
+    let [at, end, sample, sampled] = [(); 4].map(|()| number(dice));
+    let done = if dice.one_in(8) { dice.byte() } else { 0 };
+    let before = Cursor { state: any_image(dice).into_vec(), at, end, sample, sampled, done };
+    let room = if dice.one_in(3) { less_room(dice) } else { dice.between(REPLAY_ROOM, 5_000) };
+    let fill = dice.byte();
+    let mut output = vec![fill; room].into_boxed_slice();
+    let (mut cursor, mut written) = (before.clone(), Box::new(0x5A5A));
+    let refusal = calls::replay(&mut cursor, &session, &mut output, &mut written);
+    let expected = u8::from(image::state(&before.state).is_none());
+    let unchanged = cursor == before && *written == 0;
+    let beyond = output.get(*written..).is_none_or(|rest| rest.iter().any(|&byte| byte != fill));
+    if refusal != expected || refusal != 0 && !unchanged || beyond {
+        return Err(format!(
+            "wild replay\nsession {}\nbefore {before:?}\nafter {cursor:?}\n{room} bytes of output, {written} written\n\
+             library {refusal}\nreference {expected}\n",
+            hex(&session)
+        ));
+    }
+    tally.wild += 1;
+    Ok(())
+}
