@@ -43,4 +43,4 @@ apart x y z h false false false p q r = (refl, refl, refl)
 pub one-selected : (flags : ℕ) → selectedCount flags ≤ 1 → OneSelected flags
 one-selected flags h =
     let t = apart (flags % 2) (flags / 2 % 2) (flags / 4 % 2) h (i2cSelected flags) (spiSelected flags) (oneWireSelected flags) refl refl refl in
-    record { i2c = t .0; spi = t .1; wire = t .2 }
+    record { i2c = t .0; spi = t .1; one-wire = t .2 }
