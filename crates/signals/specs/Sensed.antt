@@ -1,8 +1,7 @@
--- For the contracts of what reads before anything is written; 01 does not speak of it.
+-- For the contracts of what is read before anything is written; 01 does not speak of it.
 use Prim.Native.Nat.{_*_}
 use lib.ListN.{length}
-use Rattle.lines.specs.Waves.{measured}
-use Rattle.lines.specs.declared.Measured.{Measured}
+use Rattle.lines.specs.Waves.{LineWave}
 use Rattle.signals.specs.Waveforms.{Wave}
 pub use Rattle.signals.specs.declared.Sensed.{Sensed}
 
@@ -10,6 +9,6 @@ pub use Rattle.signals.specs.declared.Sensed.{Sensed}
 abbrev pub senseOf : Wave → Sensed
 senseOf w = record { used = w .used; bytes = 4 * length (w .actions); byte = w .byte; packet = w .packet }
 
--- .. but for the packet register
-abbrev pub measureOf : Wave → Measured
-measureOf w = measured (w .used) (length (w .actions)) (w .byte)
+-- a waveform without the packet register after it
+abbrev pub onLines : Wave → LineWave
+onLines w = record { actions = w .actions; used = w .used; byte = w .byte }

@@ -5,8 +5,9 @@ ghost use lib.ListN.{length};
 ghost use Rattle.wire.specs.Action.{bytesOf};
 ghost use Rattle.wire.specs.Buffer.{Written};
 ghost use Rattle.packet.specs.Packet.{width};
+ghost use Rattle.lines.specs.Waves.{measureOf};
 ghost use Rattle.signals.specs.Waveforms.{waveOf};
-ghost use Rattle.signals.specs.Sensed.{senseOf, measureOf};
+ghost use Rattle.signals.specs.Sensed.{senseOf, onLines};
 use lines::Measured;
 use lines::ports;
 use lines::pulses;
@@ -73,7 +74,7 @@ pub struct Sensed {
 // What the waveform's bus measures of it.
 fn measure(page: Page, wave: Waveform, samples: &[u8], from: usize) -> Measured
     requires { ⌜ (page .size < width) × (from ≤ length (now samples)) ⌝ }
-    ensures { λ r. ⌜ r ≡ measureOf (waveOf page wave (now (samples .entry)) from) ⌝ }
+    ensures { λ r. ⌜ r ≡ measureOf (onLines (waveOf page wave (now (samples .entry)) from)) ⌝ }
 {
     let ts = page.timings;
     match wave {

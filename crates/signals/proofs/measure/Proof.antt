@@ -4,15 +4,16 @@ use mathlib.Core.Path.{_≡_, sym, ap, _∙_}
 use mathlib.Core.List.{List}
 use Prim.Native.Nat.{ℕ}
 use Rattle.registers.specs.declared.Page.{Page}
+use Rattle.lines.specs.Waves.{measureOf}
 use Rattle.lines.specs.declared.Measured.{Measured}
 use Rattle.signals.specs.Waveforms.{Waveform, waveOf}
-use Rattle.signals.specs.Sensed.{measureOf}
+use Rattle.signals.specs.Sensed.{onLines}
 use Rattle.signals.proofs.measure.Statement.{statement}
 use Rattle.signals.proofs.measure.Tie as tie
 
 -- what is measured of a waveform is what is measured of its name
-told : (p : Page) {w : Waveform} (v : Waveform) (ss : List ℕ) (from : ℕ) {r : Measured} → w ≡ v → r ≡ measureOf (waveOf p v ss from) → r ≡ measureOf (waveOf p w ss from)
-told p v ss from e h = h ∙ sym (ap (λ (x : Waveform). measureOf (waveOf p x ss from)) e)
+told : (p : Page) {w : Waveform} (v : Waveform) (ss : List ℕ) (from : ℕ) {r : Measured} → w ≡ v → r ≡ measureOf (onLines (waveOf p v ss from)) → r ≡ measureOf (onLines (waveOf p w ss from))
+told p v ss from e h = h ∙ sym (ap (λ (x : Waveform). measureOf (onLines (waveOf p x ss from))) e)
 
 pub measure-spec : {M : Type 1} → statement M
 unfolding waveOf
