@@ -1,40 +1,40 @@
-// The waveforms of I2C, each at the front of a lent buffer.
+// The waveforms of I2C: what each measures with the samples from a place on, and its writer at the front of a lent buffer.
+ghost use mathlib.Core.Path.{_≡_};
 ghost use Prim.Native.Nat.{_+_, _≤_};
+ghost use mathlib.Core.List.{[], _∷_};
 ghost use lib.ListN.{length};
-ghost use Rattle.wire.specs.Action.{bytesOf};
+ghost use Rattle.wire.specs.Action.{action, bytesOf, scl, sda};
 ghost use Rattle.wire.specs.Buffer.{Written};
 ghost use Rattle.packet.specs.Register.{byteBits, zeros};
-ghost use Rattle.lines.specs.Lines.{each};
+ghost use Rattle.lines.specs.Lines.{released, low, forEach};
+ghost use Rattle.lines.specs.Waves.{measureOf};
 ghost use Rattle.i2c_bus.specs.I2c.{i2cStart, i2cStop, i2cBit, i2cSampled, i2cWrite, i2cRead};
+use lines::Measured;
 
 const RELEASE: u8 = wire::VERB_RELEASE;
 
 const LOW: u8 = wire::VERB_DRIVE_LOW;
 
+const SAMPLE: u8 = wire::VERB_SAMPLE_LINE;
+
 const SCL: u8 = wire::LINE_SCL;
 
 const SDA: u8 = wire::LINE_SDA;
 
-// 20: a start. The caller shows that its actions fit.
-pub fn start(out: &mut [u8]) -> usize
-    requires { ⌜ length (bytesOf i2cStart) ≤ length (now out) ⌝ }
-    ensures { λ n. ⌜ Written (now (out .entry)) 0 (bytesOf i2cStart) (now (out .exit)) n ⌝ }
+const WHILE_HIGH_ACTIONS: u8 = 4;
+
+// SDA and SCL released, an action on SDA while SCL is high, and SCL low: a start where SDA goes low, a bit read where it is sampled.
+fn put_while_high(out: &mut [u8], verb: u8) -> usize
+    requires { ⌜ 16 ≤ length (now out) ⌝ }
+    ensures { λ n. ⌜ Written (now (out .entry)) 0 (bytesOf (released sda ∷ released scl ∷ action verb sda 0 ∷ low scl ∷ [])) (now (out .exit)) n ⌝ }
 {
     let a = wire::put_action(out, RELEASE, SDA, 0);
     let b = a + wire::put_action(&mut out[a..], RELEASE, SCL, 0);
-    let c = b + wire::put_action(&mut out[b..], LOW, SDA, 0);
+    let c = b + wire::put_action(&mut out[b..], verb, SDA, 0);
     c + wire::put_action(&mut out[c..], LOW, SCL, 0)
 }
 
-// 21: a stop. The caller shows that its actions fit.
-pub fn stop(out: &mut [u8]) -> usize
-    requires { ⌜ length (bytesOf i2cStop) ≤ length (now out) ⌝ }
-    ensures { λ n. ⌜ Written (now (out .entry)) 0 (bytesOf i2cStop) (now (out .exit)) n ⌝ }
-{
-    let a = wire::put_action(out, LOW, SDA, 0);
-    let b = a + wire::put_action(&mut out[a..], RELEASE, SCL, 0);
-    b + wire::put_action(&mut out[b..], RELEASE, SDA, 0)
-}
+const BIT_ACTIONS: u8 = 3;
 
 // A bit on SDA and a clock pulse.
 fn put_bit(out: &mut [u8], bit: u8) -> usize
@@ -47,21 +47,44 @@ fn put_bit(out: &mut [u8], bit: u8) -> usize
     b + wire::put_action(&mut out[b..], LOW, SCL, 0)
 }
 
-// SDA released and sampled within a clock pulse.
-fn put_sampled(out: &mut [u8]) -> usize
-    requires { ⌜ 16 ≤ length (now out) ⌝ }
-    ensures { λ n. ⌜ Written (now (out .entry)) 0 (bytesOf i2cSampled) (now (out .exit)) n ⌝ }
+// 20: a start.
+pub fn measure_start(samples: &[u8], from: usize) -> Measured
+    ensures { λ r. ⌜ r ≡ measureOf (i2cStart (now (samples .entry)) from) ⌝ }
 {
-    let a = wire::put_action(out, RELEASE, SDA, 0);
+    lines::quiet(WHILE_HIGH_ACTIONS)
+}
+
+// Writes a start's actions, for which the caller shows the room.
+pub fn put_start(out: &mut [u8], samples: &[u8], from: usize) -> usize
+    requires { ⌜ length (bytesOf ((i2cStart (now samples) from) .actions)) ≤ length (now out) ⌝ }
+    ensures { λ n. ⌜ Written (now (out .entry)) 0 (bytesOf ((i2cStart (now (samples .entry)) from) .actions)) (now (out .exit)) n ⌝ }
+{
+    put_while_high(out, LOW)
+}
+
+const STOP_ACTIONS: u8 = 3;
+
+// 21: a stop.
+pub fn measure_stop(samples: &[u8], from: usize) -> Measured
+    ensures { λ r. ⌜ r ≡ measureOf (i2cStop (now (samples .entry)) from) ⌝ }
+{
+    lines::quiet(STOP_ACTIONS)
+}
+
+// Writes a stop's actions, for which the caller shows the room.
+pub fn put_stop(out: &mut [u8], samples: &[u8], from: usize) -> usize
+    requires { ⌜ length (bytesOf ((i2cStop (now samples) from) .actions)) ≤ length (now out) ⌝ }
+    ensures { λ n. ⌜ Written (now (out .entry)) 0 (bytesOf ((i2cStop (now (samples .entry)) from) .actions)) (now (out .exit)) n ⌝ }
+{
+    let a = wire::put_action(out, LOW, SDA, 0);
     let b = a + wire::put_action(&mut out[a..], RELEASE, SCL, 0);
-    let c = b + wire::put_action(&mut out[b..], wire::VERB_SAMPLE_LINE, SDA, 0);
-    c + wire::put_action(&mut out[c..], LOW, SCL, 0)
+    b + wire::put_action(&mut out[b..], RELEASE, SDA, 0)
 }
 
 // A byte's bits, high bit first.
 fn put_bits(out: &mut [u8], byte: u8) -> usize
-    requires { ⌜ 0 + length (bytesOf (each i2cBit (byteBits byte))) ≤ length (now out) ⌝ }
-    ensures { λ n. ⌜ Written (now (out .entry)) 0 (bytesOf (each i2cBit (byteBits byte))) (now (out .exit)) n ⌝ }
+    requires { ⌜ 0 + length (bytesOf (forEach i2cBit (byteBits byte))) ≤ length (now out) ⌝ }
+    ensures { λ n. ⌜ Written (now (out .entry)) 0 (bytesOf (forEach i2cBit (byteBits byte))) (now (out .exit)) n ⌝ }
 {
     let mut at: usize = 0;
     let mut i: u8 = 0;
@@ -73,34 +96,53 @@ fn put_bits(out: &mut [u8], byte: u8) -> usize
     at
 }
 
-// A byte written, high bit first, and its acknowledge sampled. The caller shows that the actions fit.
-pub fn write(out: &mut [u8], byte: u8) -> usize
-    requires { ⌜ length (bytesOf (i2cWrite byte)) ≤ length (now out) ⌝ }
-    ensures { λ n. ⌜ Written (now (out .entry)) 0 (bytesOf (i2cWrite byte)) (now (out .exit)) n ⌝ }
+const WRITE_ACTIONS: u8 = 8 * BIT_ACTIONS + WHILE_HIGH_ACTIONS;
+
+// 22's operand: a byte written, high bit first, and its acknowledge sampled.
+pub fn measure_write(byte: u8, samples: &[u8], from: usize) -> Measured
+    ensures { λ r. ⌜ r ≡ measureOf (i2cWrite byte (now (samples .entry)) from) ⌝ }
+{
+    lines::once(WRITE_ACTIONS, samples, from)
+}
+
+// Writes the actions of a byte written, for which the caller shows the room.
+pub fn put_write(out: &mut [u8], byte: u8, samples: &[u8], from: usize) -> usize
+    requires { ⌜ length (bytesOf ((i2cWrite byte (now samples) from) .actions)) ≤ length (now out) ⌝ }
+    ensures { λ n. ⌜ Written (now (out .entry)) 0 (bytesOf ((i2cWrite byte (now (samples .entry)) from) .actions)) (now (out .exit)) n ⌝ }
 {
     let at = put_bits(out, byte);
-    at + put_sampled(&mut out[at..])
+    at + put_while_high(&mut out[at..], SAMPLE)
 }
 
 // SDA sampled eight times.
 fn put_samples(out: &mut [u8]) -> usize
-    requires { ⌜ 0 + length (bytesOf (each (λ _. i2cSampled) (zeros 8))) ≤ length (now out) ⌝ }
-    ensures { λ n. ⌜ Written (now (out .entry)) 0 (bytesOf (each (λ _. i2cSampled) (zeros 8))) (now (out .exit)) n ⌝ }
+    requires { ⌜ 0 + length (bytesOf (forEach (λ _. i2cSampled) (zeros 8))) ≤ length (now out) ⌝ }
+    ensures { λ n. ⌜ Written (now (out .entry)) 0 (bytesOf (forEach (λ _. i2cSampled) (zeros 8))) (now (out .exit)) n ⌝ }
 {
     let mut at: usize = 0;
     let mut i: u8 = 0;
     while i < 8 {
-        let n = put_sampled(&mut out[at..]);
+        let n = put_while_high(&mut out[at..], SAMPLE);
         at += n;
         i += 1;
     }
     at
 }
 
-// A byte read, and the answering bit. The caller shows that the actions fit.
-pub fn read(out: &mut [u8], answer: u8) -> usize
-    requires { ⌜ length (bytesOf (i2cRead answer)) ≤ length (now out) ⌝ }
-    ensures { λ n. ⌜ Written (now (out .entry)) 0 (bytesOf (i2cRead answer)) (now (out .exit)) n ⌝ }
+const READ_ACTIONS: u8 = 8 * WHILE_HIGH_ACTIONS + BIT_ACTIONS;
+
+// 23, 24: a byte read, high bit first, and the answering bit. The caller shows that the mark is not past the samples' end.
+pub fn measure_read(answer: u8, samples: &[u8], from: usize) -> Measured
+    requires { ⌜ from ≤ length (now samples) ⌝ }
+    ensures { λ r. ⌜ r ≡ measureOf (i2cRead answer (now (samples .entry)) from) ⌝ }
+{
+    lines::eight(READ_ACTIONS, samples, from, true)
+}
+
+// Writes the actions of a byte read, for which the caller shows the room.
+pub fn put_read(out: &mut [u8], answer: u8, samples: &[u8], from: usize) -> usize
+    requires { ⌜ length (bytesOf ((i2cRead answer (now samples) from) .actions)) ≤ length (now out) ⌝ }
+    ensures { λ n. ⌜ Written (now (out .entry)) 0 (bytesOf ((i2cRead answer (now (samples .entry)) from) .actions)) (now (out .exit)) n ⌝ }
 {
     let at = put_samples(out);
     at + put_bit(&mut out[at..], answer)

@@ -1,8 +1,8 @@
 -- Laws of rows of actions, one row for each element of a list, of the loops that write them, and of actions written one
 -- after another. Assumes nothing.
 use mathlib.Core.Path.{_≡_, refl, sym, ap, subst, _∙_}
-use mathlib.Core.List.{List, [], _++_}
-use Prim.Native.Nat.{ℕ, suc, _+_, _-_, _≤_, _<_}
+use mathlib.Core.List.{List, [], _∷_, _++_}
+use Prim.Native.Nat.{ℕ, suc, _+_, _-_, _*_, _≤_, _<_}
 use native.Mathlib.Nat.{add-zero}
 use native.Mathlib.Numerals.{add-one}
 use native.Mathlib.Omega.{arith}
@@ -12,16 +12,22 @@ use Rattle.wire.specs.Action.{Action, bytesOf}
 use Rattle.wire.specs.Buffer.{overwrite, Written}
 use Rattle.wire.proofs.Actions.{bytes-append}
 use Rattle.wire.proofs.Buffers.{overwrite-none, overwrite-length, overwrite-append, written-append, placed, room}
-use Rattle.lines.specs.Lines.{each}
+use Rattle.lines.specs.Lines.{forEach}
+
+-- rows of k actions each
+pub each-length : (f : ℕ → List Action) (k : ℕ) → ((x : ℕ) → length (f x) ≡ k) → (xs : List ℕ) → length (forEach f xs) ≡ length xs * k
+unfolding forEach
+each-length f k h [] = omega arith
+each-length f k h (x ∷ xs) = omega (arith, length-append (f x) (forEach f xs), h x, each-length f k h xs)
 
 -- the bytes of the rows of a list's elements from place i on
 abbrev pub rows : (ℕ → List Action) → List ℕ → ℕ → List ℕ
-rows f xs i = bytesOf (each f (drop i xs))
+rows f xs i = bytesOf (forEach f (drop i xs))
 
 -- the first of those rows, and the rest
 rows-turn : (f : ℕ → List Action) (xs : List ℕ) (i x : ℕ) → i < length xs → getD xs i 0 ≡ x → rows f xs i ≡ bytesOf (f x) ++ rows f xs (i + 1)
-unfolding each
-rows-turn f xs i x h q = rw (add-one, drop-cons xs i 0 h, q) (bytes-append (f x) (each f (drop (suc i) xs)))
+unfolding forEach
+rows-turn f xs i x h q = rw (add-one, drop-cons xs i 0 h, q) (bytes-append (f x) (forEach f (drop (suc i) xs)))
 
 -- a loop that has written i rows: what writing the rest from here leaves is what writing all of them from the start leaves
 pub record Owed (f : ℕ → List Action) (xs entry : List ℕ) (start i : ℕ) (now : List ℕ) (at : ℕ) : Type 0 where
@@ -36,12 +42,12 @@ pub owed-at : {f : ℕ → List Action} {xs l m : List ℕ} {start at i k : ℕ}
 owed-at {f} {xs} {l} {m} {start} {at} e o = subst (λ (j : ℕ). Owed f xs l start j m at) e o
 
 -- where all rows fit, the place is not past the end
-pub owed-within : {f : ℕ → List Action} {xs l m : List ℕ} {start at i : ℕ} → Owed f xs l start i m at → start + length (bytesOf (each f xs)) ≤ length l → at ≤ length m
+pub owed-within : {f : ℕ → List Action} {xs l m : List ℕ} {start at i : ℕ} → Owed f xs l start i m at → start + length (bytesOf (forEach f xs)) ≤ length l → at ≤ length m
 owed-within o fit = omega (arith, o .size, o .place, fit)
 
 -- .. and the next one fits in the part from there on
 pub owed-fits : (f : ℕ → List Action) (xs : List ℕ) {l m : List ℕ} {start at i x : ℕ} → Owed f xs l start i m at → i < length xs → getD xs i 0 ≡ x
-    → start + length (bytesOf (each f xs)) ≤ length l → length (bytesOf (f x)) ≤ length (take (length m - at) (drop at m))
+    → start + length (bytesOf (forEach f xs)) ≤ length l → length (bytesOf (f x)) ≤ length (take (length m - at) (drop at m))
 owed-fits f xs {m = m} {at = at} {i = i} {x = x} o h q fit =
     let e : length (rows f xs i) ≡ length (bytesOf (f x)) + length (rows f xs (i + 1)) = ap length (rows-turn f xs i x h q) ∙ length-append (bytesOf (f x)) (rows f xs (i + 1)) in
     room m at (length (bytesOf (f x))) (omega (arith, o .size, o .place, e, fit))
@@ -63,11 +69,11 @@ owed-turn f xs {m = m} {at = at} {i = i} {x = x} o h q v =
 
 -- with no row left the loop has written them all
 pub owed-none : (f : ℕ → List Action) (xs : List ℕ) {l m : List ℕ} {start at i : ℕ} → Owed f xs l start i m at → length xs ≤ i
-    → Written l start (bytesOf (each f xs)) m at
-unfolding each
+    → Written l start (bytesOf (forEach f xs)) m at
+unfolding forEach
 owed-none f xs {m = m} {at = at} {i = i} o h =
     let d : drop i xs ≡ [] = drop-of-length-le xs {i = i} h in
-    let e : rows f xs i ≡ [] = ap (λ (r : List ℕ). bytesOf (each f r)) d in
+    let e : rows f xs i ≡ [] = ap (λ (r : List ℕ). bytesOf (forEach f r)) d in
     record {
       bytes = sym (overwrite-none m at) ∙ ap (overwrite m at) (sym e) ∙ o .bytes;
       after = sym (add-zero at) ∙ ap (λ (r : List ℕ). at + length r) (sym e) ∙ o .place;

@@ -34,10 +34,10 @@ lowOrReleased line bit = action (verbFor release bit) line 0
 abbrev pub driven : ℕ → ℕ → Action
 driven line bit = action (verbFor driveHigh bit) line 0
 
--- what f gives for each of a list, in a row
-unfoldable pub each : (ℕ → List Action) → List ℕ → List Action
-each f [] = []
-each f (x ∷ xs) = f x ++ each f xs
+-- the actions that f gives for each of a list, one after another
+unfoldable pub forEach : (ℕ → List Action) → List ℕ → List Action
+forEach f [] = []
+forEach f (x ∷ xs) = f x ++ forEach f xs
 
 -- the levels of n samples from place s on; low past the end
 unfoldable pub levels : List ℕ → ℕ → ℕ → List ℕ
@@ -53,7 +53,3 @@ abbrev pub portActions : ℕ → ℕ → ℕ → ℕ → ℕ → ℕ → List Ac
 portActions ddrb portb ddrc portc ddrd portd =
     action setDirection portB ddrb ∷ action setLatch portB portb ∷ action setDirection portC ddrc ∷ action setLatch portC portc
     ∷ action setDirection portD ddrd ∷ action setLatch portD portd ∷ []
-
--- Reinit: "all directions and latches 0"
-abbrev pub reinit : List Action
-reinit = portActions 0 0 0 0 0 0

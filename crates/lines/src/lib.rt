@@ -1,61 +1,65 @@
-// What the waveforms of all buses share: rows of actions on ports and single lines, and what samples give.
+// What the waveforms of all buses share: the measure of one before it is written, the verb for a bit, and what samples give; and the
+// waveforms of single lines and ports.
 ghost use mathlib.Core.Path.{_≡_};
 ghost use Prim.Native.Nat.{_≤_};
-ghost use mathlib.Core.List.{[], _∷_, _++_};
 ghost use lib.ListN.{length};
-ghost use Rattle.wire.specs.Action.{action, bytesOf, setLatch, pb7, noLine};
-ghost use Rattle.wire.specs.Buffer.{Written};
-ghost use Rattle.lines.specs.Lines.{low, high, verbFor, reinit};
+ghost use Rattle.wire.specs.Sample.{byteAt};
+ghost use Rattle.lines.specs.Lines.{verbFor, levels, byteOf};
+ghost use Rattle.lines.specs.Waves.{measured};
 
 pub mod ports;
+pub mod pulses;
 pub mod readings;
+pub mod singles;
 
-const LOW: u8 = wire::VERB_DRIVE_LOW;
+// What is known of a waveform before anything is written: the byte that its samples give, how many samples it uses, and how many
+// bytes its actions take.
+pub struct Measured {
+    pub byte: u8,
+    pub used: usize,
+    pub bytes: usize,
+}
 
-const HIGH: u8 = wire::VERB_DRIVE_HIGH;
+// The measure of so many actions that sample nothing.
+pub fn quiet(actions: u8) -> Measured
+    ensures { λ r. ⌜ r ≡ measured 0 actions 0 ⌝ }
+{
+    Measured {
+        used: 0,
+        bytes: wire::ACTION_BYTES * actions as usize,
+        byte: 0,
+    }
+}
 
-const LATCH: u8 = wire::VERB_LATCH;
+// The measure of so many actions that sample once: the byte is the sample as it stands.
+pub fn once(actions: u8, samples: &[u8], from: usize) -> Measured
+    ensures { λ r. ⌜ r ≡ measured 1 actions (byteAt (now (samples .entry)) from) ⌝ }
+{
+    let byte = wire::byte_at(samples, from);
+    Measured {
+        used: 1,
+        bytes: wire::ACTION_BYTES * actions as usize,
+        byte,
+    }
+}
+
+// The measure of so many actions that sample eight times: the byte of the levels, the first of them highest or lowest.
+// The caller shows that the mark is not past the samples' end.
+pub fn eight(actions: u8, samples: &[u8], from: usize, high: bool) -> Measured
+    requires { ⌜ from ≤ length (now samples) ⌝ }
+    ensures { λ r. ⌜ r ≡ measured 8 actions (byteOf high (levels (now (samples .entry)) from 8)) ⌝ }
+{
+    let byte = readings::byte_of(samples, from, high);
+    Measured {
+        used: 8,
+        bytes: wire::ACTION_BYTES * actions as usize,
+        byte,
+    }
+}
 
 // The verb for a bit, where the one for 1 is release on an open line and high on a driven one.
 pub fn verb_for(one: u8, bit: u8) -> u8
     ensures { λ r. ⌜ r ≡ verbFor one bit ⌝ }
 {
-    if bit == 0 { LOW } else { one }
-}
-
-// Reinit: all directions and latches 0. The caller shows that its actions fit.
-pub fn put_reinit(out: &mut [u8]) -> usize
-    requires { ⌜ length (bytesOf reinit) ≤ length (now out) ⌝ }
-    ensures { λ n. ⌜ Written (now (out .entry)) 0 (bytesOf reinit) (now (out .exit)) n ⌝ }
-{
-    ports::put_ports(out, 0, 0, 0, 0, 0, 0)
-}
-
-// Reinit, and then a line driven high. The caller shows that these fit.
-pub fn put_reinit_high(out: &mut [u8], line: u8) -> usize
-    requires { ⌜ length (bytesOf (reinit ++ (high line ∷ []))) ≤ length (now out) ⌝ }
-    ensures { λ n. ⌜ Written (now (out .entry)) 0 (bytesOf (reinit ++ (high line ∷ []))) (now (out .exit)) n ⌝ }
-{
-    let at = put_reinit(out);
-    at + wire::put_action(&mut out[at..], HIGH, line, 0)
-}
-
-// A latch written, a wait, and the latch written again. The caller shows that these fit.
-pub fn put_pulse(out: &mut [u8], line: u8, first: u8, unit: u8, wait: u8, last: u8) -> usize
-    requires { ⌜ 12 ≤ length (now out) ⌝ }
-    ensures { λ n. ⌜ Written (now (out .entry)) 0 (bytesOf (action setLatch line first ∷ action unit noLine wait ∷ action setLatch line last ∷ [])) (now (out .exit)) n ⌝ }
-{
-    let a = wire::put_action(out, LATCH, line, first as u16);
-    let b = a + wire::put_action(&mut out[a..], unit, wire::NO_LINE, wait as u16);
-    b + wire::put_action(&mut out[b..], LATCH, line, last as u16)
-}
-
-// PB7 driven low, a wait, and PB7 driven high. The caller shows that these fit.
-pub fn put_pb7_pulse(out: &mut [u8], unit: u8, wait: u16) -> usize
-    requires { ⌜ 12 ≤ length (now out) ⌝ }
-    ensures { λ n. ⌜ Written (now (out .entry)) 0 (bytesOf (low pb7 ∷ action unit noLine wait ∷ high pb7 ∷ [])) (now (out .exit)) n ⌝ }
-{
-    let a = wire::put_action(out, LOW, wire::LINE_PB7, 0);
-    let b = a + wire::put_action(&mut out[a..], unit, wire::NO_LINE, wait);
-    b + wire::put_action(&mut out[b..], HIGH, wire::LINE_PB7, 0)
+    if bit == 0 { wire::VERB_DRIVE_LOW } else { one }
 }

@@ -1,16 +1,20 @@
--- Laws of a slot's waits, and of a byte's bits low bit first. Assumes nothing.
-use mathlib.Core.Path.{_≡_, ap, _∙_}
+-- Laws of a slot's waits, of a byte's bits low bit first, and of how many actions slots are. Assumes nothing.
+use mathlib.Core.Path.{_≡_, refl, ap, _∙_}
 use Prim.Native.Nat.{ℕ, _-_, _*_, _/_, _%_, _^_, _≤_, _<_}
 use native.Mathlib.Nat.{mul-le-mul-right}
 use native.Mathlib.Omega.{arith}
 use mir.Val.{Fits}
 use mir.Syntax.{w16}
-use lib.ListN.{length, getD, take, length-reverse, length-replicate}
+use lib.ListN.{length, getD, take, length-append, length-reverse}
 use lib.Seq.{getD-take, length-take-le}
-use Rattle.packet.specs.Register.{byteBits, zeros}
+use Rattle.wire.specs.Action.{release}
+use Rattle.packet.specs.Register.{byteBits}
 use Rattle.packet.proofs.Bytes.{length-byte, byte-at}
 use Rattle.packet.proofs.Places.{getD-reverse}
-use Rattle.one_wire_bus.specs.OneWire.{lowFirst}
+use Rattle.lines.specs.Lines.{forEach}
+use Rattle.lines.proofs.Rows.{each-length}
+use Rattle.one_wire_bus.specs.declared.Waits.{Waits}
+use Rattle.one_wire_bus.specs.OneWire.{writeSlot, lowFirst, writeSlots}
 
 -- a unit of at most 8 µs times at most 255 is a number of 16 bits
 pub few : (u n : ℕ) → u ≤ 8 → n ≤ 255 → Fits w16 (u * n)
@@ -34,5 +38,9 @@ low-taken n byte i h k = getD-take n (lowFirst byte) i 0 h ∙ low-at byte i (om
 pub length-low : (n byte : ℕ) → n ≤ 8 → length (take n (lowFirst byte)) ≡ n
 length-low n byte k = length-take-le n (lowFirst byte) (omega (arith, length-reverse (byteBits byte), length-byte byte))
 
-pub length-zeros : (n : ℕ) → length (zeros n) ≡ n
-length-zeros n = length-replicate n 0
+-- n slots, of which the last may end otherwise
+pub write-length : (w : Waits) (n fifth byte : ℕ) → 1 ≤ n → n ≤ 8 → n * 6 ≡ length (writeSlots w n fifth byte)
+unfolding writeSlots
+write-length w n fifth byte h k =
+    let bs = take (n - 1) (lowFirst byte) in
+    omega (arith, length-append (forEach (writeSlot w release) bs) (writeSlot w fifth (getD (lowFirst byte) (n - 1) 0)), each-length (writeSlot w release) 6 (λ b. refl) bs, length-low (n - 1) byte (omega arith))

@@ -1,12 +1,14 @@
-// The waveforms of 1-Wire, each at the front of a lent buffer.
+// The waveforms of 1-Wire: what each measures with the samples from a place on, and its writer at the front of a lent buffer.
 ghost use mathlib.Core.Path.{_≡_};
 ghost use Prim.Native.Nat.{_+_, _-_, _≤_, _<_};
 ghost use mathlib.Core.List.{[], _∷_};
 ghost use lib.ListN.{length, take};
 ghost use Rattle.wire.specs.Action.{action, bytesOf, release, dq};
 ghost use Rattle.wire.specs.Buffer.{Written};
-ghost use Rattle.lines.specs.Lines.{each, waits};
-ghost use Rattle.one_wire_bus.specs.OneWire.{groupWaits, resetWaits, writeWaits, readWaits, slot, writeSlot, sampleSlot, lowFirst, oneWireWrite, oneWireRead};
+ghost use Rattle.lines.specs.Lines.{forEach, waits};
+ghost use Rattle.lines.specs.Waves.{measureOf};
+ghost use Rattle.one_wire_bus.specs.OneWire.{groupWaits, resetWaits, writeWaits, readWaits, slot, sampleSlot, writeSlot, lowFirst, readSlots, oneWireReset, oneWireWrite, oneWireRead, oneWireReadBit};
+use lines::Measured;
 use registers::TIMINGS;
 
 const RELEASE: u8 = wire::VERB_RELEASE;
@@ -57,6 +59,8 @@ fn put_step(out: &mut [u8], verb: u8, wait: u16) -> usize
         )
 }
 
+const SLOT_ACTIONS: u8 = 6;
+
 // A slot by its three waits and the verbs of its third and fifth action.
 fn put_slot(out: &mut [u8], w: Waits, third: u8, fifth: u8) -> usize
     requires { ⌜ 24 ≤ length (now out) ⌝ }
@@ -74,8 +78,22 @@ fn write_waits(ts: [u8; TIMINGS]) -> Waits
     group_waits(1, ts[3], ts[4], ts[5])
 }
 
-// A reset: a slot of the reset group that samples. The caller shows that its actions fit.
-pub fn reset(out: &mut [u8], ts: [u8; TIMINGS]) -> usize
+// The waits of the read group.
+fn read_waits(ts: [u8; TIMINGS]) -> Waits
+    ensures { λ w. ⌜ w ≡ readWaits ts ⌝ }
+{
+    group_waits(1, ts[6], ts[7], ts[8])
+}
+
+// 60: a reset, a slot of the reset group that samples.
+pub fn measure_reset(ts: [u8; TIMINGS], samples: &[u8], from: usize) -> Measured
+    ensures { λ r. ⌜ r ≡ measureOf (oneWireReset ts (now (samples .entry)) from) ⌝ }
+{
+    lines::once(SLOT_ACTIONS, samples, from)
+}
+
+// Writes a reset's actions, for which the caller shows the room.
+pub fn put_reset(out: &mut [u8], ts: [u8; TIMINGS]) -> usize
     requires { ⌜ length (bytesOf (sampleSlot (resetWaits ts))) ≤ length (now out) ⌝ }
     ensures { λ n. ⌜ Written (now (out .entry)) 0 (bytesOf (sampleSlot (resetWaits ts))) (now (out .exit)) n ⌝ }
 {
@@ -85,8 +103,8 @@ pub fn reset(out: &mut [u8], ts: [u8; TIMINGS]) -> usize
 
 // The low n bits of a byte, low bit first, each in a slot that ends released.
 fn put_bits(out: &mut [u8], w: Waits, n: u8, byte: u8) -> usize
-    requires { ⌜ (n < 8) × (0 + length (bytesOf (each (writeSlot w release) (take n (lowFirst byte)))) ≤ length (now out)) ⌝ }
-    ensures { λ next. ⌜ Written (now (out .entry)) 0 (bytesOf (each (writeSlot w release) (take n (lowFirst byte)))) (now (out .exit)) next ⌝ }
+    requires { ⌜ (n < 8) × (0 + length (bytesOf (forEach (writeSlot w release) (take n (lowFirst byte)))) ≤ length (now out)) ⌝ }
+    ensures { λ next. ⌜ Written (now (out .entry)) 0 (bytesOf (forEach (writeSlot w release) (take n (lowFirst byte)))) (now (out .exit)) next ⌝ }
 {
     let mut at: usize = 0;
     let mut i: u8 = 0;
@@ -99,11 +117,18 @@ fn put_bits(out: &mut [u8], w: Waits, n: u8, byte: u8) -> usize
     at
 }
 
-// The low n bits of a byte, low bit first; the last slot's fifth action has the verb given. The caller shows that n is 1 to 8 and
-// that the actions fit.
-pub fn write(out: &mut [u8], ts: [u8; TIMINGS], n: u8, fifth: u8, byte: u8) -> usize
-    requires { ⌜ ((1 ≤ n) × (n ≤ 8)) × (length (bytesOf (oneWireWrite (writeWaits ts) n fifth byte)) ≤ length (now out)) ⌝ }
-    ensures { λ m. ⌜ Written (now (out .entry)) 0 (bytesOf (oneWireWrite (writeWaits ts) n fifth byte)) (now (out .exit)) m ⌝ }
+// The low n bits of a byte, low bit first; the last slot's fifth action has the verb given. The caller shows that n is 1 to 8.
+pub fn measure_write(ts: [u8; TIMINGS], n: u8, fifth: u8, byte: u8) -> Measured
+    requires { ⌜ (1 ≤ n) × (n ≤ 8) ⌝ }
+    ensures { λ r. ⌜ r ≡ measureOf (oneWireWrite ts n fifth byte) ⌝ }
+{
+    lines::quiet(n * SLOT_ACTIONS)
+}
+
+// Writes the actions of n bits written, for which the caller shows the room and that n is 1 to 8.
+pub fn put_write(out: &mut [u8], ts: [u8; TIMINGS], n: u8, fifth: u8, byte: u8) -> usize
+    requires { ⌜ ((1 ≤ n) × (n ≤ 8)) × (length (bytesOf ((oneWireWrite ts n fifth byte) .actions)) ≤ length (now out)) ⌝ }
+    ensures { λ m. ⌜ Written (now (out .entry)) 0 (bytesOf ((oneWireWrite ts n fifth byte) .actions)) (now (out .exit)) m ⌝ }
 {
     let w = write_waits(ts);
     let at = put_bits(out, w, n - 1, byte);
@@ -111,18 +136,44 @@ pub fn write(out: &mut [u8], ts: [u8; TIMINGS], n: u8, fifth: u8, byte: u8) -> u
     at + put_slot(&mut out[at..], w, verb, fifth)
 }
 
-// Slots of the read group for n bits. The caller shows that their actions fit.
-pub fn read(out: &mut [u8], ts: [u8; TIMINGS], n: u8) -> usize
-    requires { ⌜ length (bytesOf (oneWireRead (readWaits ts) n)) ≤ length (now out) ⌝ }
-    ensures { λ m. ⌜ Written (now (out .entry)) 0 (bytesOf (oneWireRead (readWaits ts) n)) (now (out .exit)) m ⌝ }
+const READ_ACTIONS: u8 = 8 * SLOT_ACTIONS;
+
+// 62: a byte read, low bit first. The caller shows that the mark is not past the samples' end.
+pub fn measure_read(ts: [u8; TIMINGS], samples: &[u8], from: usize) -> Measured
+    requires { ⌜ from ≤ length (now samples) ⌝ }
+    ensures { λ r. ⌜ r ≡ measureOf (oneWireRead ts (now (samples .entry)) from) ⌝ }
 {
-    let w = group_waits(1, ts[6], ts[7], ts[8]);
+    lines::eight(READ_ACTIONS, samples, from, false)
+}
+
+// Writes the actions of a byte read, for which the caller shows the room.
+pub fn put_read(out: &mut [u8], ts: [u8; TIMINGS]) -> usize
+    requires { ⌜ length (bytesOf (readSlots (readWaits ts))) ≤ length (now out) ⌝ }
+    ensures { λ m. ⌜ Written (now (out .entry)) 0 (bytesOf (readSlots (readWaits ts))) (now (out .exit)) m ⌝ }
+{
+    let w = read_waits(ts);
     let mut at: usize = 0;
     let mut i: u8 = 0;
-    while i < n {
+    while i < 8 {
         let k = put_slot(&mut out[at..], w, RELEASE, SAMPLE);
         at += k;
         i += 1;
     }
     at
+}
+
+// 64: a bit read.
+pub fn measure_read_bit(ts: [u8; TIMINGS], samples: &[u8], from: usize) -> Measured
+    ensures { λ r. ⌜ r ≡ measureOf (oneWireReadBit ts (now (samples .entry)) from) ⌝ }
+{
+    lines::once(SLOT_ACTIONS, samples, from)
+}
+
+// Writes the actions of a bit read, for which the caller shows the room.
+pub fn put_read_bit(out: &mut [u8], ts: [u8; TIMINGS]) -> usize
+    requires { ⌜ length (bytesOf (sampleSlot (readWaits ts))) ≤ length (now out) ⌝ }
+    ensures { λ m. ⌜ Written (now (out .entry)) 0 (bytesOf (sampleSlot (readWaits ts))) (now (out .exit)) m ⌝ }
+{
+    let w = read_waits(ts);
+    put_slot(out, w, RELEASE, SAMPLE)
 }

@@ -10,7 +10,7 @@ use native.Mathlib.Omega.{arith}
 use lib.ListN.{length, getD, take, drop, set, length-set, drop-of-length-le}
 use lib.Seq.{take-nil, drop-nil, drop-cons, drop-drop, drop-append-add, take-append-seam, getD-set-same, drop-set-lt, slice}
 use Rattle.packet.specs.Register.{byteBits, bits, number, register, zeros}
-use Rattle.packet.specs.Packet.{kept, order, received}
+use Rattle.packet.specs.Packet.{kept, order, bitsReceived}
 use Rattle.packet.proofs.Bytes.{length-byte, length-register, number-low}
 
 -- A BYTE OF A REGISTER
@@ -91,8 +91,8 @@ kept-at k n j left r l h e =
 
 -- a byte of a received register has the levels of its places, as they stand in order
 pub received-at : (k n j first end : ℕ) (high : Bool) (rs : List ℕ) → length rs ≡ n → j < k → first ≡ 8 * j - (8 * k - n) → end ≡ 8 * j + 8 - (8 * k - n)
-    → number 0 (slice first end (order high rs)) ≡ getD (register k (received (8 * k) high rs)) j 0
-unfolding received
+    → number 0 (slice first end (order high rs)) ≡ getD (register k (bitsReceived (8 * k) high rs)) j 0
+unfolding bitsReceived
 received-at k n j first end high rs l h f e = rw (l, f, e) (sym (padded-slice k (8 * k - n) j (order high rs) h))
 
 -- THE LOOPS

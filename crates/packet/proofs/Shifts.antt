@@ -7,7 +7,7 @@ use native.Mathlib.Omega.{arith}
 use lib.ListN.{length, take, drop, length-append, length-drop, length-replicate, length-reverse}
 use lib.Seq.{take-append-le, drop-append-le, take-at, drop-at}
 use Rattle.packet.specs.Register.{bits, register, zeros}
-use Rattle.packet.specs.Packet.{kept, order, received}
+use Rattle.packet.specs.Packet.{kept, order, bitsReceived}
 use Rattle.packet.specs.Shift.{shifted, lowered, Exchanges}
 use Rattle.packet.proofs.Bytes.{length-bits}
 use Rattle.packet.proofs.Places.{length-order}
@@ -22,8 +22,8 @@ behind : (high : Bool) (rs bs : List ℕ) → length rs ≤ length bs → shifte
 unfolding shifted
 behind high rs bs h = ap (order high) (drop-append-le (length rs) (order high bs) rs (omega (arith, length-order high bs)))
 
-held : (w : ℕ) (high : Bool) (rs bs : List ℕ) → length bs ≡ w → length rs ≤ w → kept w (length rs) (lowered w (length rs) high (shifted high rs bs)) ≡ received w high rs
-unfolding lowered received order
+held : (w : ℕ) (high : Bool) (rs bs : List ℕ) → length bs ≡ w → length rs ≤ w → kept w (length rs) (lowered w (length rs) high (shifted high rs bs)) ≡ bitsReceived w high rs
+unfolding lowered bitsReceived order
 held w true rs bs l h = ap (kept w (length rs)) (behind true rs bs (omega arith)) ∙ kept-low w (drop (length rs) bs) rs (omega (arith, length-drop (length rs) bs))
 held w false rs bs l h =
     let n = length rs in

@@ -71,8 +71,8 @@ abbrev pub sentAt : Bool → List ℕ → ℕ → ℕ
 sentAt high r step = getD (order high (bits r)) step 0
 
 -- "the N bits received at bits N − 1 to 0, rest zero, the first one at bit N − 1 with bit 2 set, else at bit 0"
-unfoldable pub received : ℕ → Bool → List ℕ → List ℕ
-received w high rs = zeros (w - length rs) ++ order high rs
+unfoldable pub bitsReceived : ℕ → Bool → List ℕ → List ℕ
+bitsReceived w high rs = zeros (w - length rs) ++ order high rs
 
 -- SENDING (4A): "the low ceil(N/8) bytes, lowest first"
 abbrev pub lowBytes : ℕ → List ℕ → List ℕ

@@ -6,7 +6,7 @@ use mathlib.Core.Bool.{Bool, cond}
 use mathlib.Core.List.{List, _++_}
 use lib.ListN.{length, take, drop}
 use Rattle.packet.specs.Register.{bits, register, zeros}
-use Rattle.packet.specs.Packet.{kept, order, sent, received}
+use Rattle.packet.specs.Packet.{kept, order, sent, bitsReceived}
 
 -- the register's bits in the order on the wire, and behind them those received
 abbrev pub passing : Bool → List ℕ → List ℕ → List ℕ
@@ -28,4 +28,4 @@ exchanged w high rs r = register (w / 8) (kept w (length rs) (lowered w (length 
 -- 01 has received, whatever stood there before
 pub record Exchanges (w : ℕ) (high : Bool) (rs r : List ℕ) : Type 0 where
   pub leaves : take (length rs) (passing high rs (bits r)) ≡ sent (length rs) high r
-  pub holds : exchanged w high rs r ≡ register (w / 8) (received w high rs)
+  pub holds : exchanged w high rs r ≡ register (w / 8) (bitsReceived w high rs)

@@ -1,3 +1,4 @@
 -- Laws that the proofs of this crate and of the crates above cite.
 pub mod Counts
 pub mod Samples
+pub mod Packets

@@ -1,17 +1,12 @@
--- Every waveform by name: its actions, how many samples it uses, and what they give. The names are declared in src/lib.rt.
+-- Every waveform by name, as its bus defines it. The names are declared in src/lib.rt.
 use Prim.Native.Nat.{ℕ}
-use mathlib.Core.Bool.{true, false}
-use mathlib.Core.List.{List, [], _∷_, _++_}
-use Rattle.packet.specs.Register.{register}
-use Rattle.packet.specs.Packet.{width, registerBytes, received}
-use Rattle.registers.specs.Registers.{highFirst, bitsIn}
+use mathlib.Core.List.{List}
 use Rattle.registers.specs.declared.Page.{Page}
-use Rattle.wire.specs.Action.{Action, action, release, driveHigh, samplePort, setLatch, pb7, noLine}
-use Rattle.wire.specs.Sample.{byteAt}
-use Rattle.lines.specs.Lines.{low, high, sampled, levels, byteOf, reinit}
+use Rattle.wire.specs.Action.{Action, release, driveHigh, sampleLine, samplePort}
+use Rattle.lines.specs.Waves.{LineWave, still, single, sampling, reinit, reinitHigh, portPulse, pb7Pulse}
 use Rattle.i2c_bus.specs.I2c.{i2cStart, i2cStop, i2cWrite, i2cRead}
-use Rattle.spi_bus.specs.Spi.{spiExchange}
-use Rattle.one_wire_bus.specs.OneWire.{resetWaits, writeWaits, readWaits, sampleSlot, oneWireWrite, oneWireRead}
+use Rattle.spi_bus.specs.Spi.{spiExchange, packetAfter}
+use Rattle.one_wire_bus.specs.OneWire.{oneWireReset, oneWireWrite, oneWireRead, oneWireReadBit}
 pub use Rattle.signals.specs.declared.Waveform.{Waveform}
 pub use Rattle.signals.specs.declared.Waveform.the-variants.{Still, Reinit, ReinitHigh, Line, Port, PortPulse, Pb7Pulse, SampleLine, SamplePort, Start, Stop, WriteI2c, ReadI2c, Exchange, ResetOneWire, WriteOneWire, WriteOneWireBit, WriteOneWireStrong, ReadOneWire, ReadOneWireBit}
 
@@ -22,42 +17,33 @@ pub record Wave : Type 0 where
   pub byte : ℕ
   pub packet : List ℕ
 
--- actions that sample nothing
-abbrev pub quiet : Page → List Action → Wave
-quiet p as′ = record { actions = as′; used = 0; byte = 0; packet = p .packet }
+-- what happens on the lines, with the packet register after it
+abbrev pub leaving : List ℕ → LineWave → Wave
+leaving r w = record { actions = w .actions; used = w .used; byte = w .byte; packet = r }
 
--- actions that sample once
-abbrev pub once : Page → List Action → List ℕ → ℕ → Wave
-once p as′ ss s = record { actions = as′; used = 1; byte = byteAt ss s; packet = p .packet }
-
--- actions that sample so many times and give a byte
-abbrev pub giving : Page → List Action → ℕ → ℕ → Wave
-giving p as′ n x = record { actions = as′; used = n; byte = x; packet = p .packet }
+-- .. as it was before
+abbrev pub keeping : Page → LineWave → Wave
+keeping p w = leaving (p .packet) w
 
 -- the waveform on a page, with the samples from place s on
 unfoldable pub waveOf : Page → Waveform → List ℕ → ℕ → Wave
-waveOf p Still ss s = quiet p []
-waveOf p Reinit ss s = quiet p reinit
-waveOf p (ReinitHigh line) ss s = quiet p (reinit ++ (high line ∷ []))
-waveOf p (Line verb line) ss s = quiet p (action verb line 0 ∷ [])
-waveOf p (Port verb line x) ss s = quiet p (action verb line x ∷ [])
-waveOf p (PortPulse line x verb n y) ss s = quiet p (action setLatch line x ∷ action verb noLine n ∷ action setLatch line y ∷ [])
-waveOf p (Pb7Pulse verb n) ss s = quiet p (low pb7 ∷ action verb noLine n ∷ high pb7 ∷ [])
-waveOf p (SampleLine line) ss s = once p (sampled line ∷ []) ss s
-waveOf p (SamplePort line) ss s = once p (action samplePort line 0 ∷ []) ss s
-waveOf p Start ss s = quiet p i2cStart
-waveOf p Stop ss s = quiet p i2cStop
-waveOf p (WriteI2c x) ss s = once p (i2cWrite x) ss s
-waveOf p (ReadI2c answer) ss s = giving p (i2cRead answer) 8 (byteOf true (levels ss s 8))
-waveOf p Exchange ss s = record {
-  actions = spiExchange (bitsIn p) (p .config) (p .packet);
-  used = bitsIn p;
-  byte = 0;
-  packet = register registerBytes (received width (highFirst (p .config)) (levels ss s (bitsIn p)));
-}
-waveOf p ResetOneWire ss s = once p (sampleSlot (resetWaits (p .timings))) ss s
-waveOf p (WriteOneWire x) ss s = quiet p (oneWireWrite (writeWaits (p .timings)) 8 release x)
-waveOf p (WriteOneWireBit x) ss s = quiet p (oneWireWrite (writeWaits (p .timings)) 1 release x)
-waveOf p (WriteOneWireStrong x) ss s = quiet p (oneWireWrite (writeWaits (p .timings)) 8 driveHigh x)
-waveOf p ReadOneWire ss s = giving p (oneWireRead (readWaits (p .timings)) 8) 8 (byteOf false (levels ss s 8))
-waveOf p ReadOneWireBit ss s = once p (oneWireRead (readWaits (p .timings)) 1) ss s
+waveOf p Still ss s = keeping p still
+waveOf p Reinit ss s = keeping p reinit
+waveOf p (ReinitHigh line) ss s = keeping p (reinitHigh line)
+waveOf p (Line verb line) ss s = keeping p (single verb line 0)
+waveOf p (Port verb line x) ss s = keeping p (single verb line x)
+waveOf p (PortPulse line x verb n y) ss s = keeping p (portPulse line x verb n y)
+waveOf p (Pb7Pulse verb n) ss s = keeping p (pb7Pulse verb n)
+waveOf p (SampleLine line) ss s = keeping p (sampling sampleLine line ss s)
+waveOf p (SamplePort line) ss s = keeping p (sampling samplePort line ss s)
+waveOf p Start ss s = keeping p (i2cStart ss s)
+waveOf p Stop ss s = keeping p (i2cStop ss s)
+waveOf p (WriteI2c x) ss s = keeping p (i2cWrite x ss s)
+waveOf p (ReadI2c answer) ss s = keeping p (i2cRead answer ss s)
+waveOf p Exchange ss s = leaving (packetAfter p ss s) (spiExchange p)
+waveOf p ResetOneWire ss s = keeping p (oneWireReset (p .timings) ss s)
+waveOf p (WriteOneWire x) ss s = keeping p (oneWireWrite (p .timings) 8 release x)
+waveOf p (WriteOneWireBit x) ss s = keeping p (oneWireWrite (p .timings) 1 release x)
+waveOf p (WriteOneWireStrong x) ss s = keeping p (oneWireWrite (p .timings) 8 driveHigh x)
+waveOf p ReadOneWire ss s = keeping p (oneWireRead (p .timings) ss s)
+waveOf p ReadOneWireBit ss s = keeping p (oneWireReadBit (p .timings) ss s)

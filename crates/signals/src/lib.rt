@@ -1,19 +1,27 @@
-// The waveforms: what an event does on the lines, with the samples that it reads.
+// The waveforms by name: what an event does on the lines, as its bus measures and writes it.
 ghost use mathlib.Core.Path.{_≡_};
-ghost use Prim.Native.Nat.{_*_, _≤_, _<_};
+ghost use Prim.Native.Nat.{_≤_, _<_};
 ghost use lib.ListN.{length};
 ghost use Rattle.wire.specs.Action.{bytesOf};
 ghost use Rattle.wire.specs.Buffer.{Written};
-ghost use Rattle.wire.specs.Sample.{byteAt};
-ghost use Rattle.packet.specs.Register.{register};
-ghost use Rattle.packet.specs.Packet.{width, registerBytes, received};
-ghost use Rattle.registers.specs.Registers.{highFirst, bitsIn};
-ghost use Rattle.lines.specs.Lines.{levels, byteOf};
-ghost use Rattle.spi_bus.specs.Spi.{spiExchange};
+ghost use Rattle.packet.specs.Packet.{width};
+ghost use Rattle.lines.specs.Waves.{measureOf};
 ghost use Rattle.signals.specs.Waveforms.{waveOf};
-ghost use Rattle.signals.specs.Sensed.{senseOf};
+ghost use Rattle.signals.specs.Sensed.{senseOf, onLines};
+use lines::Measured;
+use lines::ports;
+use lines::pulses;
+use lines::singles;
 use packet::Register;
 use registers::Page;
+
+const RELEASE: u8 = wire::VERB_RELEASE;
+
+const HIGH: u8 = wire::VERB_DRIVE_HIGH;
+
+const SAMPLE_LINE: u8 = wire::VERB_SAMPLE_LINE;
+
+const SAMPLE_PORT: u8 = wire::VERB_SAMPLE_PORT;
 
 // A waveform by name; a port's value is its whole new register.
 pub enum Waveform {
@@ -63,58 +71,50 @@ pub struct Sensed {
     pub packet: packet::Register,
 }
 
-// What so many actions without a sample give.
-fn quiet(kept: Register, actions: u8) -> Sensed
-    ensures { λ r. ⌜ r ≡ record { used = 0; bytes = 4 * actions; byte = 0; packet = kept } ⌝ }
-{
-    Sensed {
-        used: 0,
-        bytes: wire::ACTION_BYTES * actions as usize,
-        byte: 0,
-        packet: kept,
-    }
-}
-
-// What so many actions with one sample give: the sample as it stands.
-fn once(kept: Register, actions: u8, samples: &[u8], from: usize) -> Sensed
-    ensures { λ r. ⌜ r ≡ record { used = 1; bytes = 4 * actions; byte = byteAt (now (samples .entry)) from; packet = kept } ⌝ }
-{
-    Sensed {
-        used: 1,
-        bytes: wire::ACTION_BYTES * actions as usize,
-        byte: wire::byte_at(samples, from),
-        packet: kept,
-    }
-}
-
-// What so many actions with eight samples give: a byte, the first sample its highest bit or its lowest.
-fn eight(kept: Register, actions: u8, samples: &[u8], from: usize, high: bool) -> Sensed
-    requires { ⌜ from ≤ length (now samples) ⌝ }
-    ensures { λ r. ⌜ r ≡ record { used = 8; bytes = 4 * actions; byte = byteOf high (levels (now (samples .entry)) from 8); packet = kept } ⌝ }
-{
-    Sensed {
-        used: 8,
-        bytes: wire::ACTION_BYTES * actions as usize,
-        byte: lines::readings::byte_of(samples, from, high),
-        packet: kept,
-    }
-}
-
-// What an exchange gives: the packet register with the N levels received.
-fn exchanged(page: Page, samples: &[u8], from: usize) -> Sensed
+// What the waveform's bus measures of it.
+fn measure(page: Page, wave: Waveform, samples: &[u8], from: usize) -> Measured
     requires { ⌜ (page .size < width) × (from ≤ length (now samples)) ⌝ }
-    ensures { λ r. ⌜ r ≡ record { used = bitsIn page; bytes = 4 * length (spiExchange (bitsIn page) (page .config) (page .packet)); byte = 0; packet = register registerBytes (received width (highFirst (page .config)) (levels (now (samples .entry)) from (bitsIn page))) } ⌝ }
+    ensures { λ r. ⌜ r ≡ measureOf (onLines (waveOf page wave (now (samples .entry)) from)) ⌝ }
 {
-    let r = page.packet;
-    let n = page.size + 1;
-    let high = page.config / 4 % 2 == 1;
-    let used = n as usize;
-    let after = spi_bus::exchange(r, samples, from, n, high);
-    Sensed {
-        used,
-        bytes: wire::ACTION_BYTES * (1 + 4 * used),
-        byte: 0,
-        packet: after,
+    let ts = page.timings;
+    match wave {
+        Waveform::Still => lines::quiet(0),
+        Waveform::Reinit => ports::measure_reinit(),
+        Waveform::ReinitHigh(line) => ports::measure_reinit_high(line),
+        Waveform::Line { verb, line } => singles::measure_single(verb, line, 0),
+        Waveform::Port { verb, line, value } => singles::measure_single(verb, line, value),
+        Waveform::PortPulse {
+            line,
+            first,
+            unit,
+            wait,
+            last,
+        } => pulses::measure_port_pulse(line, first, unit, wait, last),
+        Waveform::Pb7Pulse { unit, wait } => pulses::measure_pb7_pulse(unit, wait),
+        Waveform::SampleLine(line) => singles::measure_sample(SAMPLE_LINE, line, samples, from),
+        Waveform::SamplePort(line) => singles::measure_sample(SAMPLE_PORT, line, samples, from),
+        Waveform::Start => i2c_bus::measure_start(samples, from),
+        Waveform::Stop => i2c_bus::measure_stop(samples, from),
+        Waveform::WriteI2c(x) => i2c_bus::measure_write(x, samples, from),
+        Waveform::ReadI2c(answer) => i2c_bus::measure_read(answer, samples, from),
+        Waveform::Exchange => spi_bus::measure_exchange(page),
+        Waveform::ResetOneWire => one_wire_bus::measure_reset(ts, samples, from),
+        Waveform::WriteOneWire(x) => one_wire_bus::measure_write(ts, 8, RELEASE, x),
+        Waveform::WriteOneWireBit(x) => one_wire_bus::measure_write(ts, 1, RELEASE, x),
+        Waveform::WriteOneWireStrong(x) => one_wire_bus::measure_write(ts, 8, HIGH, x),
+        Waveform::ReadOneWire => one_wire_bus::measure_read(ts, samples, from),
+        Waveform::ReadOneWireBit => one_wire_bus::measure_read_bit(ts, samples, from),
+    }
+}
+
+// The packet register after a waveform; an exchange alone gives another.
+fn packet_after(page: Page, wave: Waveform, samples: &[u8], from: usize) -> Register
+    requires { ⌜ (page .size < width) × (from ≤ length (now samples)) ⌝ }
+    ensures { λ q. ⌜ q ≡ (waveOf page wave (now (samples .entry)) from) .packet ⌝ }
+{
+    match wave {
+        Waveform::Exchange => spi_bus::packet_after(page, samples, from),
+        _ => page.packet,
     }
 }
 
@@ -124,28 +124,13 @@ pub fn sense(page: Page, wave: Waveform, samples: &[u8], from: usize) -> Sensed
     requires { ⌜ (page .size < width) × (from ≤ length (now samples)) ⌝ }
     ensures { λ r. ⌜ r ≡ senseOf (waveOf page wave (now (samples .entry)) from) ⌝ }
 {
-    let kept = page.packet;
-    match wave {
-        Waveform::Still => quiet(kept, 0),
-        Waveform::Reinit => quiet(kept, 6),
-        Waveform::ReinitHigh(_) => quiet(kept, 7),
-        Waveform::Line { .. } => quiet(kept, 1),
-        Waveform::Port { .. } => quiet(kept, 1),
-        Waveform::PortPulse { .. } => quiet(kept, 3),
-        Waveform::Pb7Pulse { .. } => quiet(kept, 3),
-        Waveform::SampleLine(_) => once(kept, 1, samples, from),
-        Waveform::SamplePort(_) => once(kept, 1, samples, from),
-        Waveform::Start => quiet(kept, 4),
-        Waveform::Stop => quiet(kept, 3),
-        Waveform::WriteI2c(_) => once(kept, 28, samples, from),
-        Waveform::ReadI2c(_) => eight(kept, 35, samples, from, true),
-        Waveform::Exchange => exchanged(page, samples, from),
-        Waveform::ResetOneWire => once(kept, 6, samples, from),
-        Waveform::WriteOneWire(_) => quiet(kept, 48),
-        Waveform::WriteOneWireBit(_) => quiet(kept, 6),
-        Waveform::WriteOneWireStrong(_) => quiet(kept, 48),
-        Waveform::ReadOneWire => eight(kept, 48, samples, from, false),
-        Waveform::ReadOneWireBit => once(kept, 6, samples, from),
+    let m = measure(page, wave, samples, from);
+    let packet = packet_after(page, wave, samples, from);
+    Sensed {
+        used: m.used,
+        bytes: m.bytes,
+        byte: m.byte,
+        packet,
     }
 }
 
@@ -155,40 +140,33 @@ pub fn write(out: &mut [u8], page: Page, wave: Waveform, samples: &[u8], from: u
     requires { ⌜ (page .size < width) × (length (bytesOf ((waveOf page wave (now samples) from) .actions)) ≤ length (now out)) ⌝ }
     ensures { λ n. ⌜ Written (now (out .entry)) 0 (bytesOf ((waveOf page wave (now (samples .entry)) from) .actions)) (now (out .exit)) n ⌝ }
 {
-    let r = page.packet;
     let ts = page.timings;
     match wave {
         Waveform::Still => 0,
-        Waveform::Reinit => lines::put_reinit(out),
-        Waveform::ReinitHigh(line) => lines::put_reinit_high(out, line),
-        Waveform::Line { verb, line } => wire::put_action(out, verb, line, 0),
-        Waveform::Port { verb, line, value } => wire::put_action(out, verb, line, value as u16),
+        Waveform::Reinit => ports::put_reinit(out),
+        Waveform::ReinitHigh(line) => ports::put_reinit_high(out, line),
+        Waveform::Line { verb, line } => singles::put_single(out, verb, line, 0),
+        Waveform::Port { verb, line, value } => singles::put_single(out, verb, line, value),
         Waveform::PortPulse {
             line,
             first,
             unit,
             wait,
             last,
-        } => lines::put_pulse(out, line, first, unit, wait, last),
-        Waveform::Pb7Pulse { unit, wait } => lines::put_pb7_pulse(out, unit, wait),
-        Waveform::SampleLine(line) => wire::put_action(out, wire::VERB_SAMPLE_LINE, line, 0),
-        Waveform::SamplePort(line) => wire::put_action(out, wire::VERB_SAMPLE_PORT, line, 0),
-        Waveform::Start => i2c_bus::start(out),
-        Waveform::Stop => i2c_bus::stop(out),
-        Waveform::WriteI2c(x) => i2c_bus::write(out, x),
-        Waveform::ReadI2c(answer) => i2c_bus::read(out, answer),
-        Waveform::Exchange => spi_bus::put_exchange(out, r, page.size + 1, page.config),
-        Waveform::ResetOneWire => one_wire_bus::reset(out, ts),
-        Waveform::WriteOneWire(x) => one_wire_bus::write(out, ts, 8, wire::VERB_RELEASE, x),
-        Waveform::WriteOneWireBit(x) => one_wire_bus::write(out, ts, 1, wire::VERB_RELEASE, x),
-        Waveform::WriteOneWireStrong(x) => one_wire_bus::write(
-            out,
-            ts,
-            8,
-            wire::VERB_DRIVE_HIGH,
-            x,
-        ),
-        Waveform::ReadOneWire => one_wire_bus::read(out, ts, 8),
-        Waveform::ReadOneWireBit => one_wire_bus::read(out, ts, 1),
+        } => pulses::put_port_pulse(out, line, first, unit, wait, last),
+        Waveform::Pb7Pulse { unit, wait } => pulses::put_pb7_pulse(out, unit, wait),
+        Waveform::SampleLine(line) => singles::put_single(out, SAMPLE_LINE, line, 0),
+        Waveform::SamplePort(line) => singles::put_single(out, SAMPLE_PORT, line, 0),
+        Waveform::Start => i2c_bus::put_start(out, samples, from),
+        Waveform::Stop => i2c_bus::put_stop(out, samples, from),
+        Waveform::WriteI2c(x) => i2c_bus::put_write(out, x, samples, from),
+        Waveform::ReadI2c(answer) => i2c_bus::put_read(out, answer, samples, from),
+        Waveform::Exchange => spi_bus::put_exchange(out, page),
+        Waveform::ResetOneWire => one_wire_bus::put_reset(out, ts),
+        Waveform::WriteOneWire(x) => one_wire_bus::put_write(out, ts, 8, RELEASE, x),
+        Waveform::WriteOneWireBit(x) => one_wire_bus::put_write(out, ts, 1, RELEASE, x),
+        Waveform::WriteOneWireStrong(x) => one_wire_bus::put_write(out, ts, 8, HIGH, x),
+        Waveform::ReadOneWire => one_wire_bus::put_read(out, ts),
+        Waveform::ReadOneWireBit => one_wire_bus::put_read_bit(out, ts),
     }
 }

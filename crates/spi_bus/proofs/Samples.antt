@@ -1,29 +1,33 @@
--- How many samples an exchange takes: one a bit, in either phase. Assumes nothing.
+-- An exchange uses the samples that it takes, one a bit in either phase, and reads no others. Assumes nothing.
 use Prim.Native.Nat.{ℕ, _-_, _*_, _≤_}
-use mathlib.Core.Path.{_≡_, refl}
+use mathlib.Core.Path.{_≡_, refl, ap}
 use mathlib.Core.Bool.{Bool, true, false}
 use mathlib.Core.List.{List}
 use native.Mathlib.Omega.{arith}
 use lib.ListN.{length}
 use Rattle.wire.specs.Action.{driveHigh}
-use Rattle.wire.specs.Sample.{samplings}
-use Rattle.packet.specs.Packet.{sent}
+use Rattle.wire.specs.Sample.{samplings, SameFrom}
+use Rattle.packet.specs.Register.{register}
+use Rattle.packet.specs.Packet.{width, registerBytes, sent, bitsReceived}
 use Rattle.packet.proofs.Places.{length-sent}
-use Rattle.registers.specs.Registers.{polarityOf, phaseOf, highFirst}
-use Rattle.lines.specs.Lines.{each}
-use Rattle.lines.proofs.Samples.{bit-samples, each-samples}
-use Rattle.spi_bus.specs.Spi.{spiBit, spiExchange}
+use Rattle.registers.specs.Registers.{polarityOf, phaseOf, highFirst, bitsIn}
+use Rattle.registers.specs.declared.Page.{Page}
+use Rattle.lines.specs.Waves.{UsesTaken}
+use Rattle.lines.proofs.Samples.{bit-samples, each-samples, levels-same}
+use Rattle.spi_bus.specs.Spi.{spiBit, spiBits, spiExchange, packetAfter}
 
 bit-takes : (polarity : ℕ) (phase : Bool) (b : ℕ) → samplings (spiBit polarity phase b) ≡ 1
 unfolding spiBit samplings
 bit-takes polarity true b = omega (arith, bit-samples driveHigh (1 - polarity) refl, bit-samples driveHigh b refl, bit-samples driveHigh polarity refl)
 bit-takes polarity false b = omega (arith, bit-samples driveHigh (1 - polarity) refl, bit-samples driveHigh b refl, bit-samples driveHigh polarity refl)
 
-bits-take : (polarity : ℕ) (phase : Bool) (xs : List ℕ) → samplings (each (spiBit polarity phase) xs) ≡ length xs
-bits-take polarity phase xs = omega (arith, each-samples (spiBit polarity phase) 1 (bit-takes polarity phase) xs)
+pub exchange-takes : (p : Page) → bitsIn p ≤ 8 * length (p .packet) → UsesTaken (spiExchange p)
+unfolding spiBits samplings
+exchange-takes p h =
+    let polarity = polarityOf (p .config) in
+    let phase = phaseOf (p .config) in
+    let xs = sent (bitsIn p) (highFirst (p .config)) (p .packet) in
+    omega (arith, bit-samples driveHigh polarity refl, each-samples (spiBit polarity phase) 1 (bit-takes polarity phase) xs, length-sent (bitsIn p) (highFirst (p .config)) (p .packet) h)
 
-pub exchange-takes : (n config : ℕ) (r : List ℕ) → n ≤ 8 * length r → samplings (spiExchange n config r) ≡ n
-unfolding spiExchange samplings
-exchange-takes n config r h =
-    let xs = sent n (highFirst config) r in
-    omega (arith, bit-samples driveHigh (polarityOf config) refl, bits-take (polarityOf config) (phaseOf config) xs, length-sent n (highFirst config) r h)
+pub packet-same : (p : Page) (ss : List ℕ) (m : ℕ) (us : List ℕ) (k : ℕ) → SameFrom (bitsIn p) ss m us k → packetAfter p ss m ≡ packetAfter p us k
+packet-same p ss m us k h = ap (λ (ls : List ℕ). register registerBytes (bitsReceived width (highFirst (p .config)) ls)) (levels-same (bitsIn p) ss us m k h)

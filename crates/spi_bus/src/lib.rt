@@ -1,4 +1,4 @@
-// SPI: the waveform of an exchange, and the packet register after it.
+// SPI: what an exchange measures and gives, and its writer.
 ghost use mathlib.Core.Path.{_≡_};
 ghost use Prim.Native.Nat.{_≤_, _<_};
 ghost use lib.ListN.{length};
@@ -7,10 +7,14 @@ ghost use Rattle.wire.specs.Action.{bytesOf, sck};
 ghost use Rattle.wire.specs.Buffer.{Written};
 ghost use Rattle.packet.specs.Packet.{width, sent};
 ghost use Rattle.packet.specs.Shift.{exchanged};
-ghost use Rattle.lines.specs.Lines.{driven, each, levels};
-ghost use Rattle.spi_bus.specs.Spi.{spiBit, spiExchange};
+ghost use Rattle.lines.specs.Lines.{driven, forEach, levels};
+ghost use Rattle.lines.specs.Waves.{measureOf};
+ghost use Rattle.spi_bus.specs.Spi.{spiBit, spiExchange, packetAfter};
+use lines::Measured;
 use lines::readings;
 use packet::Register;
+use registers::Page;
+use registers::parts;
 
 const SAMPLE: u8 = wire::VERB_SAMPLE_LINE;
 
@@ -21,6 +25,24 @@ const SCK: u8 = wire::LINE_SCK;
 const MOSI: u8 = wire::LINE_MOSI;
 
 const MISO: u8 = wire::LINE_MISO;
+
+// SCK brought to rest, and then a bit at a time.
+const REST_ACTIONS: usize = 1;
+
+const BIT_ACTIONS: usize = 4;
+
+// 46: an exchange of N bits. The caller shows that the size register is in range.
+pub fn measure_exchange(page: Page) -> Measured
+    requires { ⌜ page .size < width ⌝ }
+    ensures { λ r. ⌜ r ≡ measureOf (spiExchange page) ⌝ }
+{
+    let n = parts::bits_of(page.size) as usize;
+    Measured {
+        used: n,
+        bytes: wire::ACTION_BYTES * (REST_ACTIONS + BIT_ACTIONS * n),
+        byte: 0,
+    }
+}
 
 // One bit exchanged: with CPHA 0 the sample stands before the clock's return, with CPHA 1 after it.
 fn put_bit(out: &mut [u8], polarity: u8, phase: bool, bit: u8) -> usize
@@ -44,8 +66,8 @@ fn put_bit(out: &mut [u8], polarity: u8, phase: bool, bit: u8) -> usize
 
 // SCK to CPOL, and then n bits exchanged: whole bytes, eight bits each, and those that are left.
 fn put_bits(out: &mut [u8], r: Register, n: u8, high: bool, polarity: u8, phase: bool) -> usize
-    requires { ⌜ (n ≤ width) × ((polarity < 2) × (length (bytesOf (driven sck polarity ∷ each (spiBit polarity phase) (sent n high r))) ≤ length (now out))) ⌝ }
-    ensures { λ k. ⌜ Written (now (out .entry)) 0 (bytesOf (driven sck polarity ∷ each (spiBit polarity phase) (sent n high r))) (now (out .exit)) k ⌝ }
+    requires { ⌜ (n ≤ width) × ((polarity < 2) × (length (bytesOf (driven sck polarity ∷ forEach (spiBit polarity phase) (sent n high r))) ≤ length (now out))) ⌝ }
+    ensures { λ k. ⌜ Written (now (out .entry)) 0 (bytesOf (driven sck polarity ∷ forEach (spiBit polarity phase) (sent n high r))) (now (out .exit)) k ⌝ }
 {
     let mut at = wire::put_action(out, lines::verb_for(HIGH, polarity), SCK, 0);
     let mut i: u8 = 0;
@@ -69,21 +91,22 @@ fn put_bits(out: &mut [u8], r: Register, n: u8, high: bool, polarity: u8, phase:
     at
 }
 
-// The waveform of an exchange of n bits under a configuration. The caller shows that the register has so many bits and that
-// the actions fit.
-pub fn put_exchange(out: &mut [u8], r: Register, n: u8, config: u8) -> usize
-    requires { ⌜ (n ≤ width) × (length (bytesOf (spiExchange n config r)) ≤ length (now out)) ⌝ }
-    ensures { λ k. ⌜ Written (now (out .entry)) 0 (bytesOf (spiExchange n config r)) (now (out .exit)) k ⌝ }
+// Writes the actions of an exchange, for which the caller shows the room and that the size register is in range.
+pub fn put_exchange(out: &mut [u8], page: Page) -> usize
+    requires { ⌜ (page .size < width) × (length (bytesOf ((spiExchange page) .actions)) ≤ length (now out)) ⌝ }
+    ensures { λ k. ⌜ Written (now (out .entry)) 0 (bytesOf ((spiExchange page) .actions)) (now (out .exit)) k ⌝ }
 {
-    let phase = config % 2 == 1;
-    let polarity = config / 2 % 2;
-    let high = config / 4 % 2 == 1;
+    let r = page.packet;
+    let n = parts::bits_of(page.size);
+    let high = parts::high_first(page.config);
+    let polarity = parts::clock_polarity(page.config);
+    let phase = parts::clock_phase(page.config);
     put_bits(out, r, n, high, polarity, phase)
 }
 
-// The packet register after an exchange of n bits: the lowest byte has the last eight levels in order, and so on upward.
+// The shift register after an exchange of n bits: the lowest byte has the last eight levels in order, and so on upward.
 // The caller shows that the register has so many bits and that the mark is not past the samples' end.
-pub fn exchange(r: Register, samples: &[u8], from: usize, n: u8, high: bool) -> Register
+fn exchange(r: Register, samples: &[u8], from: usize, n: u8, high: bool) -> Register
     requires { ⌜ (n ≤ width) × (from ≤ length (now samples)) ⌝ }
     ensures { λ q. ⌜ q ≡ exchanged width high (levels (now (samples .entry)) from n) r ⌝ }
 {
@@ -98,4 +121,16 @@ pub fn exchange(r: Register, samples: &[u8], from: usize, n: u8, high: bool) -> 
         end = first;
     }
     q
+}
+
+// The packet register after an exchange. The caller shows that the size register is in range and that the mark is not past the
+// samples' end.
+pub fn packet_after(page: Page, samples: &[u8], from: usize) -> Register
+    requires { ⌜ (page .size < width) × (from ≤ length (now samples)) ⌝ }
+    ensures { λ q. ⌜ q ≡ packetAfter page (now (samples .entry)) from ⌝ }
+{
+    let r = page.packet;
+    let n = parts::bits_of(page.size);
+    let high = parts::high_first(page.config);
+    exchange(r, samples, from, n, high)
 }

@@ -5,7 +5,7 @@ use Prim.Native.Nat.{_-_, _*_, _≤_}
 use native.Mathlib.Omega.{arith}
 use lib.ListN.{length, drop, length-set}
 use Rattle.packet.specs.Register.{register}
-use Rattle.packet.specs.Packet.{width, registerBytes, received}
+use Rattle.packet.specs.Packet.{width, registerBytes, bitsReceived}
 use Rattle.packet.proofs.Bytes.{length-register}
 use Rattle.packet.proofs.Filled.{received-at, fill-start, fill-turn}
 use Rattle.packet.proofs.Shifts.{exchange-right}
@@ -15,7 +15,7 @@ use Rattle.spi_bus.proofs.exchange.Statement.{statement}
 use Rattle.spi_bus.proofs.exchange.Tie as tie
 
 abbrev Inv-loop : tie.InvT-loop
-Inv-loop samples from n high q₀ i₀ end₀ q i end = (i ≤ registerBytes) × (length q ≡ registerBytes) × (end ≡ 8 * i - (width - n)) × (drop i q ≡ drop i (register registerBytes (received width high (levels samples from n))))
+Inv-loop samples from n high q₀ i₀ end₀ q i end = (i ≤ registerBytes) × (length q ≡ registerBytes) × (end ≡ 8 * i - (width - n)) × (drop i q ≡ drop i (register registerBytes (bitsReceived width high (levels samples from n))))
 
 abbrev μ-loop : tie.MeasureT-loop
 μ-loop samples from n high q₀ i₀ end₀ q i end = i
@@ -26,7 +26,7 @@ exchange-spec =
     (tie.spec
     Inv-loop
     μ-loop
-    (λ c. let s = c .before in (omega arith, search needs, omega (arith, s .pre .0), fill-start registerBytes (s .args .r) (received width (s .args .high) (levels (s .args .samples .now) (s .args .from) (s .args .n))) (search needs)))
+    (λ c. let s = c .before in (omega arith, search needs, omega (arith, s .pre .0), fill-start registerBytes (s .args .r) (bitsReceived width (s .args .high) (levels (s .args .samples .now) (s .args .from) (s .args .n))) (search needs)))
     (λ c. search needs)
     (λ c κs. search needs)
     (λ c κs. search needs)
@@ -39,7 +39,7 @@ exchange-spec =
     let n = s .args .n in
     let i = m .loop .i in
     let ls = levels (s .args .samples .now) (s .args .from) n in
-    let bs = received width (s .args .high) ls in
+    let bs = bitsReceived width (s .args .high) ls in
     let l : length (register registerBytes bs) ≡ registerBytes = length-register registerBytes bs in (
       omega arith,
       simp length-set (omega arith),

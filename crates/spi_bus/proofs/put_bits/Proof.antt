@@ -11,7 +11,7 @@ use Rattle.wire.specs.Action.{bytesOf, sck}
 use Rattle.wire.proofs.Buffers.{overwrite-length, written-append}
 use Rattle.packet.specs.Packet.{registerBytes, sent}
 use Rattle.packet.proofs.Places.{length-sent, sent-at, byte-sent}
-use Rattle.lines.specs.Lines.{driven, each}
+use Rattle.lines.specs.Lines.{driven, forEach}
 use Rattle.spi_bus.specs.Spi.{spiBit}
 use Rattle.lines.proofs.Rows.{Owed, owed-all, owed-at, owed-within, owed-fits, owed-turn, owed-none, second-within}
 use Rattle.spi_bus.proofs.Exchanges.{bit-bytes}
@@ -28,7 +28,7 @@ abbrev μ-loop2 : tie.MeasureT-loop2
 
 abbrev Inv-loop : tie.InvT-loop
 Inv-loop out₀ r n high polarity phase at₀ i₀ out at i =
-    (i ≤ n) × (i % 8 ≡ 0) × (at₀ + length (bytesOf (each (spiBit polarity phase) (sent n high r))) ≤ length out₀)
+    (i ≤ n) × (i % 8 ≡ 0) × (at₀ + length (bytesOf (forEach (spiBit polarity phase) (sent n high r))) ≤ length out₀)
     × Owed (spiBit polarity phase) (sent n high r) out₀ at₀ i out at
 
 abbrev μ-loop : tie.MeasureT-loop
@@ -58,7 +58,7 @@ put-bits-spec =
     let p = c .before .before in
     let s = p .before .before .before .before in
     let xs = sent (s .args .n) (s .args .high) (s .args .r) in
-    (omega arith, omega arith, second-within (driven sck (s .args .polarity) ∷ []) (each (spiBit (s .args .polarity) (s .args .phase)) xs) (s .pre .1 .1) (rw (p .before .verb-for .ensures) at (p .put-action .ensures)), owed-all _ _ _ _))
+    (omega arith, omega arith, second-within (driven sck (s .args .polarity) ∷ []) (forEach (spiBit (s .args .polarity) (s .args .phase)) xs) (s .pre .1 .1) (rw (p .before .verb-for .ensures) at (p .put-action .ensures)), owed-all _ _ _ _))
     (λ c. search needs)
     (λ c κs. omega (arith, c .loop-test .taken, c .before .before .before .before .before .before .before .before .pre .0))
     (λ c.
