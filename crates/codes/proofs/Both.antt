@@ -1,11 +1,9 @@
--- What holds of both sides of an "and". Assumes nothing.
-use mathlib.Core.Path.{_≡_, refl}
-use mathlib.Core.Bool.{Bool, true, false, _&&_, false≢true}
+-- What holds of both sides of an "and", each side by a name. Assumes nothing.
+use mathlib.Core.Path.{_≡_}
+use mathlib.Core.Bool.{Bool, true, _&&_, and-eq-true-iff}
 
 pub both-left : (a b : Bool) → a && b ≡ true → a ≡ true
-both-left true b e = refl
-both-left false b e = e
+both-left a b e = and-eq-true-iff a b .0 e .0
 
 pub both-right : (a b : Bool) → a && b ≡ true → b ≡ true
-both-right true b e = e
-both-right false b e = absurd (false≢true e)
+both-right a b e = and-eq-true-iff a b .0 e .1

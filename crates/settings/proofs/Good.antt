@@ -11,7 +11,7 @@ use lib.Seq.{take-all}
 use Rattle.packet.specs.Packet.{width}
 use Rattle.registers.specs.Registers.{spiSelected, imageBytes}
 use Rattle.registers.specs.Ranges.{selectedCount, Ranges}
-use Rattle.registers.proofs.InRange.{both-left, both-right}
+use Rattle.codes.proofs.Both.{both-left, both-right}
 use Rattle.registers.proofs.Listed.{listed, front-listed}
 use Rattle.settings.specs.Images.{imageMark, goodRegisters, goodTail, isGood}
 
