@@ -12,7 +12,7 @@ use Rattle.packet.specs.Packet.{width}
 use Rattle.registers.specs.Registers.{spiSelected, imageBytes}
 use Rattle.registers.specs.Ranges.{selectedCount, Ranges}
 use Rattle.codes.proofs.Both.{both-left, both-right}
-use Rattle.registers.proofs.Listed.{listed, front-listed}
+use Rattle.settings.proofs.Listed.{listed, front-listed}
 use Rattle.settings.specs.Images.{imageMark, goodRegisters, goodTail, isGood}
 
 -- a list of so many bytes is these bytes, place by place
