@@ -20,6 +20,7 @@ use crate::packets;
 use crate::rejections::legality_of;
 use crate::rejections::rejected;
 use crate::spi;
+use crate::timings;
 use registers::State;
 use registers::Wait;
 
@@ -80,6 +81,6 @@ pub(crate) fn byte(s: State, x: u8) -> Decision
         Wait::Nothing | Wait::Extended => command(s, code_of(w, x)),
         Wait::One(o) => operands::clause(s, o, x),
         Wait::Packet { left, exchange } => packets::packet_byte(s.page.size, left, exchange, x),
-        Wait::Timings { left } => packets::timing_byte(left, x),
+        Wait::Timings { left } => timings::timing_byte(left, x),
     }
 }

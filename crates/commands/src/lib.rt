@@ -15,6 +15,7 @@ mod operands;
 mod packets;
 mod rejections;
 mod spi;
+mod timings;
 
 use registers::Event;
 use registers::PortRegister;

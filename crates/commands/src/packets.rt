@@ -1,9 +1,9 @@
-// Packet and timing bytes: what each decides.
+// Packet bytes: what each decides.
 ghost use mathlib.Core.Path.{_≡_};
 ghost use Prim.Native.Nat.{_≤_};
 ghost use Rattle.packet.specs.Packet.{packetBytes};
-ghost use Rattle.registers.specs.Registers.{bitsOf, timingBytes};
-ghost use Rattle.commands.specs.Operands.{packetClause, timingsClause};
+ghost use Rattle.registers.specs.Registers.{bitsOf};
+ghost use Rattle.commands.specs.Operands.{packetClause};
 use crate::Answer;
 use crate::Change;
 use crate::Decision;
@@ -29,27 +29,6 @@ pub(crate) fn packet_byte(size: u8, left: u8, exchange: bool, x: u8) -> Decision
         left: left - 1,
         exchange,
     };
-    deciding(
-        Change::Hold { wait, at, byte: x },
-        Waveform::Still,
-        Answer::Silent,
-    )
-}
-
-// A timing byte, with so many to come, itself among them; all are stored at the last.
-pub(crate) fn timing_byte(left: u8, x: u8) -> Decision
-    requires { ⌜ (1 ≤ left) × (left ≤ timingBytes) ⌝ }
-    ensures { λ p. ⌜ p ≡ timingsClause left x ⌝ }
-{
-    let at = registers::TIMINGS as u8 - left;
-    if left == 1 {
-        return deciding(
-            Change::LoadTimings { at, byte: x },
-            Waveform::Still,
-            Answer::Returns(codes::NO_ERROR),
-        );
-    }
-    let wait = Wait::Timings { left: left - 1 };
     deciding(
         Change::Hold { wait, at, byte: x },
         Waveform::Still,

@@ -3,8 +3,8 @@ use borrow.Author.Needs.{needs}
 use mathlib.Core.Path.{_∙_}
 use borrow.Author.Tests.{eq-eqb, ne-eqb}
 use Rattle.commands.proofs.Choices.{chosen}
-use Rattle.commands.proofs.packets.timing_byte.Statement.{statement}
-use Rattle.commands.proofs.packets.timing_byte.Tie as tie
+use Rattle.commands.proofs.timings.timing_byte.Statement.{statement}
+use Rattle.commands.proofs.timings.timing_byte.Tie as tie
 
 pub timing-byte-spec : {M : Type 1} → statement M
 timing-byte-spec =
