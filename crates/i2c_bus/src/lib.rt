@@ -1,15 +1,15 @@
 // The waveforms of I2C: what each measures with the samples from a place on, and its writer at the front of a lent buffer.
 ghost use mathlib.Core.Path.{_≡_};
 ghost use Prim.Native.Nat.{_+_, _≤_};
-ghost use mathlib.Core.List.{[], _∷_};
 ghost use lib.ListN.{length};
-ghost use Rattle.wire.specs.Action.{action, bytesOf, scl, sda};
+ghost use Rattle.wire.specs.Action.{bytesOf};
 ghost use Rattle.wire.specs.Buffer.{Written};
 ghost use Rattle.packet.specs.Register.{byteBits, zeros};
-ghost use Rattle.lines.specs.Lines.{released, low, forEach};
+ghost use Rattle.lines.specs.Lines.{forEach};
 ghost use Rattle.lines.specs.Waves.{measureOf};
 ghost use Rattle.i2c_bus.specs.I2c.{i2cStart, i2cStop, i2cBit, i2cSampled, i2cWrite, i2cRead};
 use lines::Measured;
+use lines::several;
 
 const RELEASE: u8 = wire::VERB_RELEASE;
 
@@ -21,17 +21,14 @@ const SCL: u8 = wire::LINE_SCL;
 
 const SDA: u8 = wire::LINE_SDA;
 
-const WHILE_HIGH_ACTIONS: u8 = 4;
+const SAMPLED_ACTIONS: u8 = 4;
 
-// SDA and SCL released, an action on SDA while SCL is high, and SCL low: a start where SDA goes low, a bit read where it is sampled.
-fn put_while_high(out: &mut [u8], verb: u8) -> usize
+// SDA released and sampled within a clock pulse.
+fn put_sampled(out: &mut [u8]) -> usize
     requires { ⌜ 16 ≤ length (now out) ⌝ }
-    ensures { λ n. ⌜ Written (now (out .entry)) 0 (bytesOf (released sda ∷ released scl ∷ action verb sda 0 ∷ low scl ∷ [])) (now (out .exit)) n ⌝ }
+    ensures { λ n. ⌜ Written (now (out .entry)) 0 (bytesOf i2cSampled) (now (out .exit)) n ⌝ }
 {
-    let a = wire::put_action(out, RELEASE, SDA, 0);
-    let b = a + wire::put_action(&mut out[a..], RELEASE, SCL, 0);
-    let c = b + wire::put_action(&mut out[b..], verb, SDA, 0);
-    c + wire::put_action(&mut out[c..], LOW, SCL, 0)
+    several::put_four(out, RELEASE, SDA, RELEASE, SCL, SAMPLE, SDA, LOW, SCL)
 }
 
 const BIT_ACTIONS: u8 = 3;
@@ -42,16 +39,16 @@ fn put_bit(out: &mut [u8], bit: u8) -> usize
     ensures { λ n. ⌜ Written (now (out .entry)) 0 (bytesOf (i2cBit bit)) (now (out .exit)) n ⌝ }
 {
     let verb = lines::verb_for(RELEASE, bit);
-    let a = wire::put_action(out, verb, SDA, 0);
-    let b = a + wire::put_action(&mut out[a..], RELEASE, SCL, 0);
-    b + wire::put_action(&mut out[b..], LOW, SCL, 0)
+    several::put_three(out, verb, SDA, RELEASE, SCL, LOW, SCL)
 }
+
+const START_ACTIONS: u8 = 4;
 
 // 20: a start.
 pub fn measure_start(samples: &[u8], from: usize) -> Measured
     ensures { λ r. ⌜ r ≡ measureOf (i2cStart (now (samples .entry)) from) ⌝ }
 {
-    lines::quiet(WHILE_HIGH_ACTIONS)
+    lines::quiet(START_ACTIONS)
 }
 
 // Writes a start's actions, for which the caller shows the room.
@@ -59,7 +56,7 @@ pub fn put_start(out: &mut [u8], samples: &[u8], from: usize) -> usize
     requires { ⌜ length (bytesOf ((i2cStart (now samples) from) .actions)) ≤ length (now out) ⌝ }
     ensures { λ n. ⌜ Written (now (out .entry)) 0 (bytesOf ((i2cStart (now (samples .entry)) from) .actions)) (now (out .exit)) n ⌝ }
 {
-    put_while_high(out, LOW)
+    several::put_four(out, RELEASE, SDA, RELEASE, SCL, LOW, SDA, LOW, SCL)
 }
 
 const STOP_ACTIONS: u8 = 3;
@@ -76,9 +73,7 @@ pub fn put_stop(out: &mut [u8], samples: &[u8], from: usize) -> usize
     requires { ⌜ length (bytesOf ((i2cStop (now samples) from) .actions)) ≤ length (now out) ⌝ }
     ensures { λ n. ⌜ Written (now (out .entry)) 0 (bytesOf ((i2cStop (now (samples .entry)) from) .actions)) (now (out .exit)) n ⌝ }
 {
-    let a = wire::put_action(out, LOW, SDA, 0);
-    let b = a + wire::put_action(&mut out[a..], RELEASE, SCL, 0);
-    b + wire::put_action(&mut out[b..], RELEASE, SDA, 0)
+    several::put_three(out, LOW, SDA, RELEASE, SCL, RELEASE, SDA)
 }
 
 // A byte's bits, high bit first.
@@ -96,7 +91,7 @@ fn put_bits(out: &mut [u8], byte: u8) -> usize
     at
 }
 
-const WRITE_ACTIONS: u8 = 8 * BIT_ACTIONS + WHILE_HIGH_ACTIONS;
+const WRITE_ACTIONS: u8 = 8 * BIT_ACTIONS + SAMPLED_ACTIONS;
 
 // 22's operand: a byte written, high bit first, and its acknowledge sampled.
 pub fn measure_write(byte: u8, samples: &[u8], from: usize) -> Measured
@@ -111,7 +106,7 @@ pub fn put_write(out: &mut [u8], byte: u8, samples: &[u8], from: usize) -> usize
     ensures { λ n. ⌜ Written (now (out .entry)) 0 (bytesOf ((i2cWrite byte (now (samples .entry)) from) .actions)) (now (out .exit)) n ⌝ }
 {
     let at = put_bits(out, byte);
-    at + put_while_high(&mut out[at..], SAMPLE)
+    at + put_sampled(&mut out[at..])
 }
 
 // SDA sampled eight times.
@@ -122,14 +117,14 @@ fn put_samples(out: &mut [u8]) -> usize
     let mut at: usize = 0;
     let mut i: u8 = 0;
     while i < 8 {
-        let n = put_while_high(&mut out[at..], SAMPLE);
+        let n = put_sampled(&mut out[at..]);
         at += n;
         i += 1;
     }
     at
 }
 
-const READ_ACTIONS: u8 = 8 * WHILE_HIGH_ACTIONS + BIT_ACTIONS;
+const READ_ACTIONS: u8 = 8 * SAMPLED_ACTIONS + BIT_ACTIONS;
 
 // 23, 24: a byte read, high bit first, and the answering bit. The caller shows that the mark is not past the samples' end.
 pub fn measure_read(answer: u8, samples: &[u8], from: usize) -> Measured

@@ -10,6 +10,7 @@ ghost use Rattle.lines.specs.Waves.{measured};
 pub mod ports;
 pub mod pulses;
 pub mod readings;
+pub mod several;
 pub mod singles;
 
 // What is known of a waveform before anything is written: the byte that its samples give, how many samples it uses, and how many

@@ -85,6 +85,15 @@ fn read_waits(ts: [u8; TIMINGS]) -> Waits
     group_waits(1, ts[6], ts[7], ts[8])
 }
 
+// A slot that samples, by the three bytes of its group and the unit of its waits.
+fn put_sampled(out: &mut [u8], unit: u16, a: u8, b: u8, c: u8) -> usize
+    requires { ⌜ (unit ≤ 8) × (24 ≤ length (now out)) ⌝ }
+    ensures { λ n. ⌜ Written (now (out .entry)) 0 (bytesOf (sampleSlot (groupWaits unit a b c))) (now (out .exit)) n ⌝ }
+{
+    let w = group_waits(unit, a, b, c);
+    put_slot(out, w, RELEASE, SAMPLE)
+}
+
 // 60: a reset, a slot of the reset group that samples.
 pub fn measure_reset(ts: [u8; TIMINGS], samples: &[u8], from: usize) -> Measured
     ensures { λ r. ⌜ r ≡ measureOf (oneWireReset ts (now (samples .entry)) from) ⌝ }
@@ -97,8 +106,7 @@ pub fn put_reset(out: &mut [u8], ts: [u8; TIMINGS]) -> usize
     requires { ⌜ length (bytesOf (sampleSlot (resetWaits ts))) ≤ length (now out) ⌝ }
     ensures { λ n. ⌜ Written (now (out .entry)) 0 (bytesOf (sampleSlot (resetWaits ts))) (now (out .exit)) n ⌝ }
 {
-    let w = group_waits(8, ts[0], ts[1], ts[2]);
-    put_slot(out, w, RELEASE, SAMPLE)
+    put_sampled(out, 8, ts[0], ts[1], ts[2])
 }
 
 // The low n bits of a byte, low bit first, each in a slot that ends released.
@@ -174,6 +182,5 @@ pub fn put_read_bit(out: &mut [u8], ts: [u8; TIMINGS]) -> usize
     requires { ⌜ length (bytesOf (sampleSlot (readWaits ts))) ≤ length (now out) ⌝ }
     ensures { λ m. ⌜ Written (now (out .entry)) 0 (bytesOf (sampleSlot (readWaits ts))) (now (out .exit)) m ⌝ }
 {
-    let w = read_waits(ts);
-    put_slot(out, w, RELEASE, SAMPLE)
+    put_sampled(out, 1, ts[6], ts[7], ts[8])
 }

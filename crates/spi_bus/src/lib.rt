@@ -12,6 +12,7 @@ ghost use Rattle.lines.specs.Waves.{measureOf};
 ghost use Rattle.spi_bus.specs.Spi.{spiBit, spiExchange, packetAfter};
 use lines::Measured;
 use lines::readings;
+use lines::several;
 use packet::Register;
 use registers::Page;
 use registers::parts;
@@ -53,15 +54,9 @@ fn put_bit(out: &mut [u8], polarity: u8, phase: bool, bit: u8) -> usize
     let back = lines::verb_for(HIGH, polarity);
     let data = lines::verb_for(HIGH, bit);
     if phase {
-        let a = wire::put_action(out, away, SCK, 0);
-        let b = a + wire::put_action(&mut out[a..], data, MOSI, 0);
-        let c = b + wire::put_action(&mut out[b..], back, SCK, 0);
-        return c + wire::put_action(&mut out[c..], SAMPLE, MISO, 0);
+        return several::put_four(out, away, SCK, data, MOSI, back, SCK, SAMPLE, MISO);
     }
-    let d = wire::put_action(out, data, MOSI, 0);
-    let e = d + wire::put_action(&mut out[d..], away, SCK, 0);
-    let f = e + wire::put_action(&mut out[e..], SAMPLE, MISO, 0);
-    f + wire::put_action(&mut out[f..], back, SCK, 0)
+    several::put_four(out, data, MOSI, away, SCK, SAMPLE, MISO, back, SCK)
 }
 
 // SCK to CPOL, and then n bits exchanged: whole bytes, eight bits each, and those that are left.

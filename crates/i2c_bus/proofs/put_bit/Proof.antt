@@ -1,6 +1,5 @@
--- One action after another; the first has the verb for the bit.
+-- The bit's verb is the definition's.
 use borrow.Author.Needs.{needs}
-use Rattle.lines.proofs.Rows.{then}
 use Rattle.i2c_bus.proofs.put_bit.Statement.{statement}
 use Rattle.i2c_bus.proofs.put_bit.Tie as tie
 
@@ -11,18 +10,4 @@ put-bit-spec =
     (λ c κs. search needs)
     (λ c κs. search needs)
     (λ c. search needs)
-    (λ c. search needs)
-    (λ c. search needs)
-    (λ c κs. search needs)
-    (λ c. search needs)
-    (λ c. search needs)
-    (λ c. search needs)
-    (λ c. search needs)
-    (λ c κs. search needs)
-    (λ c. search needs)
-    (λ c. search needs)
-    (λ c.
-    let p = c .before .before in
-    let q = p .before .before .before .before in
-    let r = q .before .before .before .before in
-    then (then (rw (r .before .before .verb-for .ensures) at (r .put-action .ensures)) (q .put-action2 .ensures)) (p .put-action3 .ensures)))
+    (λ c. let p = c .before .before in rw (p .before .before .verb-for .ensures) at (p .put-three .ensures)))

@@ -40,7 +40,7 @@ put-samples-spec =
     (λ c.
     let p = c .before .before in
     let m = p .before .before .before in
-    let o = owed-turn row (zeros 8) (m .loop .inv .2) (search needs) refl (p .put-while-high .ensures) in
+    let o = owed-turn row (zeros 8) (m .loop .inv .2) (search needs) refl (p .put-sampled .ensures) in
     (omega arith, owed-within o (m .before .before .pre), o))
     (λ c. c .before .loop .inv .2 .size)
     (λ c. owed-none row _ (c .before .loop .inv .2) (omega arith)))

@@ -23,4 +23,4 @@ put-write-spec =
     let p = c .before .before in
     let q = p .before .before .before .before in
     let s = q .before .before .before .before in
-    joined (forEach i2cBit (byteBits (s .args .byte))) i2cSampled (q .put-bits .ensures) (p .put-while-high .ensures)))
+    joined (forEach i2cBit (byteBits (s .args .byte))) i2cSampled (q .put-bits .ensures) (p .put-sampled .ensures)))

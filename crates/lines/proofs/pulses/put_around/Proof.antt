@@ -1,11 +1,11 @@
 -- One action after another.
 use borrow.Author.Needs.{needs}
 use Rattle.lines.proofs.Rows.{then}
-use Rattle.i2c_bus.proofs.put_stop.Statement.{statement}
-use Rattle.i2c_bus.proofs.put_stop.Tie as tie
+use Rattle.lines.proofs.pulses.put_around.Statement.{statement}
+use Rattle.lines.proofs.pulses.put_around.Tie as tie
 
-pub put-stop-spec : {M : Type 1} → statement M
-put-stop-spec =
+pub put-around-spec : {M : Type 1} → statement M
+put-around-spec =
     tie.close
     (tie.spec
     (λ c κs. search needs)

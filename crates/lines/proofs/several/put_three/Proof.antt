@@ -1,11 +1,11 @@
 -- One action after another.
 use borrow.Author.Needs.{needs}
 use Rattle.lines.proofs.Rows.{then}
-use Rattle.lines.proofs.pulses.put_port_pulse.Statement.{statement}
-use Rattle.lines.proofs.pulses.put_port_pulse.Tie as tie
+use Rattle.lines.proofs.several.put_three.Statement.{statement}
+use Rattle.lines.proofs.several.put_three.Tie as tie
 
-pub put-port-pulse-spec : {M : Type 1} → statement M
-put-port-pulse-spec =
+pub put-three-spec : {M : Type 1} → statement M
+put-three-spec =
     tie.close
     (tie.spec
     (λ c κs. search needs)

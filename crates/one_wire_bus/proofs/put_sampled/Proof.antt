@@ -5,11 +5,11 @@ use Rattle.wire.specs.Action.{bytesOf}
 use Rattle.one_wire_bus.specs.OneWire.{sampleSlot}
 use Rattle.one_wire_bus.specs.declared.Waits.{Waits}
 use Rattle.lines.proofs.Rows.{same-written}
-use Rattle.one_wire_bus.proofs.put_read_bit.Statement.{statement}
-use Rattle.one_wire_bus.proofs.put_read_bit.Tie as tie
+use Rattle.one_wire_bus.proofs.put_sampled.Statement.{statement}
+use Rattle.one_wire_bus.proofs.put_sampled.Tie as tie
 
-pub put-read-bit-spec : {M : Type 1} → statement M
-put-read-bit-spec =
+pub put-sampled-spec : {M : Type 1} → statement M
+put-sampled-spec =
     tie.close
     (tie.spec
     (λ c κs. search needs)
@@ -17,4 +17,4 @@ put-read-bit-spec =
     (λ c. search needs)
     (λ c.
     let p = c .before .before in
-    same-written (ap (λ (w : Waits). bytesOf (sampleSlot w)) (sym (p .before .before .read-waits .ensures))) (p .put-slot .ensures)))
+    same-written (ap (λ (w : Waits). bytesOf (sampleSlot w)) (sym (p .before .before .group-waits .ensures))) (p .put-slot .ensures)))
