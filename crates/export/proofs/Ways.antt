@@ -7,7 +7,7 @@ use borrow.Author.Tests.{eq-eqb, ne-eqb}
 use lib.ListN.{length}
 use Rattle.registers.specs.declared.State.{State}
 use Rattle.registers.specs.declared.Event.{Event}
-use Rattle.bridge.specs.Answering.{Lent, given, answerOf}
+use Rattle.bridge.specs.Answering.{Lent, answered, given, answerOf}
 use Rattle.bridge.specs.declared.Bridge.{Bridge}
 use Rattle.bridge.specs.declared.Stepped.{Stepped}
 use Rattle.bridge.specs.Judging.{judgementOf}
@@ -50,7 +50,7 @@ module _ (image : List ℕ) where
           rw (h, ← ex, q, e)
 
       pub step-answers : {e : Event} → x ≡ a.Event e → {s : State} → s ≡ stateIn image
-          → {y : Stepped} {as′ rs : List ℕ} → given y as′ rs ≡ answerOf (record { state = s }) e l
+          → {y : Stepped} {as′ rs : List ℕ} → given (answered y) as′ rs ≡ answerOf (record { state = s }) e l
           → {n : ℕ} → n ≡ outcomeNumber (y .outcome) → {i : List ℕ} → i ≡ imageAfter (y .outcome) (y .bridge .state) image
           → stepCall n i as′ rs (y .samples) (y .replies) (y .actions) ≡ stepGives image kind value l
       unfolding stepGives
@@ -66,15 +66,15 @@ module _ (image : List ℕ) where
     judge-no-state h e = rw (h, e)
 
     module _ (h : isState image ≡ true) {s : State} (es : s ≡ stateIn image) {x : Judgement} (ex : x ≡ judgementOf (record { state = s }) bytes) where
-      answered : judgeAnswered verdict place x ≡ judgeGives image bytes verdict place
+      judged : judgeAnswered verdict place x ≡ judgeGives image bytes verdict place
       unfolding judgeGives
-      answered = ap (judgeAnswered verdict place) (ex ∙ ap (λ (t : State). judgementOf (record { state = t }) bytes) es) ∙ rw h
+      judged = ap (judgeAnswered verdict place) (ex ∙ ap (λ (t : State). judgementOf (record { state = t }) bytes) es) ∙ rw h
 
       pub judge-refused : {w : Refusal} → x ≡ j.Refused w → {n : ℕ} → n ≡ numberOf w → judgeCall n verdict place ≡ judgeGives image bytes verdict place
-      judge-refused q e = ap (λ (k : ℕ). judgeCall k verdict place) e ∙ ap (judgeAnswered verdict place) (sym q) ∙ answered
+      judge-refused q e = ap (λ (k : ℕ). judgeCall k verdict place) e ∙ ap (judgeAnswered verdict place) (sym q) ∙ judged
 
       pub judge-judged : {w : Verdict} → x ≡ j.Judged w → {v k : ℕ} → v ≡ verdictNumber w → k ≡ placeOf w → judgeCall 0 v k ≡ judgeGives image bytes verdict place
-      judge-judged q ev ek = (λ i. judgeCall 0 (ev i) (ek i)) ∙ ap (judgeAnswered verdict place) (sym q) ∙ answered
+      judge-judged q ev ek = (λ i. judgeCall 0 (ev i) (ek i)) ∙ ap (judgeAnswered verdict place) (sym q) ∙ judged
 
   module _ (stored factory : List ℕ) (d : Device) (buffer : List ℕ) (mark : ℕ) where
     pub switch-refused : (length image ≡ imageSize → ⊥) → {n : ℕ} → n ≡ numberOf Ranges → switchCall n image buffer 0 ≡ switchGives stored factory d image buffer mark
