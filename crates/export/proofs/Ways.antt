@@ -50,11 +50,11 @@ module _ (image : List ℕ) where
           rw (h, ← ex, q, e)
 
       pub step-answers : {e : Event} → x ≡ a.Event e → {s : State} → s ≡ stateIn image
-          → {y : Stepped} {as′ rs : List ℕ} → given (answered y) as′ rs ≡ answerOf (record { state = s }) e l
+          → (y : Stepped) {as′ rs : List ℕ} → given (answered y) as′ rs ≡ answerOf (record { state = s }) e l
           → {n : ℕ} → n ≡ outcomeNumber (y .outcome) → {i : List ℕ} → i ≡ imageAfter (y .outcome) (y .bridge .state) image
           → stepCall n i as′ rs (y .samples) (y .replies) (y .actions) ≡ stepGives image kind value l
       unfolding stepGives
-      step-answers {e} q {s} es {y} {as′} {rs} eg en ei =
+      step-answers {e} q {s} es y {as′} {rs} eg en ei =
           (λ k. stepCall (en k) (ei k) as′ rs (y .samples) (y .replies) (y .actions))
           ∙ ap (stepAnswered image) eg
           ∙ ap (λ (t : State). stepAnswered image (answerOf (record { state = t }) e l)) es
