@@ -7,7 +7,7 @@ use borrow.Author.Tests.{eq-eqb, ne-eqb}
 use lib.ListN.{length}
 use Rattle.registers.specs.declared.State.{State}
 use Rattle.registers.specs.declared.Event.{Event}
-use Rattle.bridge.specs.Answering.{Lent, given, answerOf}
+use Rattle.bridge.specs.Answering.{Lent, answered, given, answerOf}
 use Rattle.bridge.specs.declared.Bridge.{Bridge}
 use Rattle.bridge.specs.declared.Stepped.{Stepped}
 use Rattle.bridge.specs.Judging.{judgementOf}
@@ -50,11 +50,11 @@ module _ (state : List ℕ) where
           rw (h, ← ex, q, e)
 
       pub step-answers : {e : Event} → x ≡ a.Event e → {s : State} → s ≡ stateIn state
-          → {y : Stepped} {as′ rs : List ℕ} → given y as′ rs ≡ answerOf (record { state = s }) e l
+          → (y : Stepped) {as′ rs : List ℕ} → given (answered y) as′ rs ≡ answerOf (record { state = s }) e l
           → {n : ℕ} → n ≡ outcomeNumber (y .outcome) → {i : List ℕ} → i ≡ stateAfter (y .outcome) (y .bridge .state) state
           → stepCall n i as′ rs (y .samples) (y .replies) (y .actions) ≡ stepGives state kind value l
       unfolding stepGives
-      step-answers {e} q {s} es {y} {as′} {rs} eg en ei =
+      step-answers {e} q {s} es y {as′} {rs} eg en ei =
           (λ k. stepCall (en k) (ei k) as′ rs (y .samples) (y .replies) (y .actions))
           ∙ ap (stepAnswered state) eg
           ∙ ap (λ (t : State). stepAnswered state (answerOf (record { state = t }) e l)) es
@@ -66,15 +66,15 @@ module _ (state : List ℕ) where
     judge-no-state h e = rw (h, e)
 
     module _ (h : isState state ≡ true) {s : State} (es : s ≡ stateIn state) {x : Judgement} (ex : x ≡ judgementOf (record { state = s }) bytes) where
-      answered : judgeAnswered verdict place x ≡ judgeGives state bytes verdict place
+      judged : judgeAnswered verdict place x ≡ judgeGives state bytes verdict place
       unfolding judgeGives
-      answered = ap (judgeAnswered verdict place) (ex ∙ ap (λ (t : State). judgementOf (record { state = t }) bytes) es) ∙ rw h
+      judged = ap (judgeAnswered verdict place) (ex ∙ ap (λ (t : State). judgementOf (record { state = t }) bytes) es) ∙ rw h
 
       pub judge-refused : {w : Refusal} → x ≡ j.Refused w → {n : ℕ} → n ≡ numberOf w → judgeCall n verdict place ≡ judgeGives state bytes verdict place
-      judge-refused q e = ap (λ (k : ℕ). judgeCall k verdict place) e ∙ ap (judgeAnswered verdict place) (sym q) ∙ answered
+      judge-refused q e = ap (λ (k : ℕ). judgeCall k verdict place) e ∙ ap (judgeAnswered verdict place) (sym q) ∙ judged
 
       pub judge-judged : {w : Verdict} → x ≡ j.Judged w → {v k : ℕ} → v ≡ verdictNumber w → k ≡ placeOf w → judgeCall 0 v k ≡ judgeGives state bytes verdict place
-      judge-judged q ev ek = (λ i. judgeCall 0 (ev i) (ek i)) ∙ ap (judgeAnswered verdict place) (sym q) ∙ answered
+      judge-judged q ev ek = (λ i. judgeCall 0 (ev i) (ek i)) ∙ ap (judgeAnswered verdict place) (sym q) ∙ judged
 
   module _ (stored factory : List ℕ) (d : Device) (buffer : List ℕ) (mark : ℕ) where
     pub switch-refused : (length state ≡ stateSize → ⊥) → {n : ℕ} → n ≡ numberOf Ranges → switchCall n state buffer 0 ≡ switchGives stored factory d state buffer mark

@@ -139,7 +139,7 @@ module _ (s : List ℕ) (h : length s ≤ 32768) where
     abbrev more : ℕ → ℕ → Progress
     more n room = progressOf n (room - length (outputOf g)) (eventsOf fault (part s (start + 1) end)) (g .answer .bridge) (drop (g .answer .samples) (lentTo s c))
 
-    -- by its outcome; `after` says that the steps from the next cursor go along the rest of the body
+    -- by its outcome; it is given that the steps from the next cursor go along the rest of the body
     event-along : (n room : ℕ) (t : Outcome)
         → stepsOf n s (room - length (outputOf g)) d ≡ goneOn n s (room - length (outputOf g)) d (more n room .outcome) (more n room)
         → thenSteps (eventStep (entered c start end) t g) (stepsOf n s (room - length (eventStep (entered c start end) t g .bytes)) (eventStep (entered c start end) t g .next))

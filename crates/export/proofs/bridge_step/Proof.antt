@@ -35,4 +35,4 @@ bridge-step-spec =
     (λ c. search needs)
     (λ c.
     let s = c .before .before .before .before .before .before .before .before .before .before .before .before .before .before .before .before .before .before .before .before .before .before .before .before in
-    step-answers (s .args .state .now) (s .args .kind) (s .args .value) (lent (s .args .samples .now) (s .args .sampled) (s .args .actions .now) (s .args .acted) (s .args .replies .now) (s .args .replied)) (sym (c .before .before .before .before .before .before .before .before .before .before .before .before .before .before .before .before .before .before .is-state .ensures) ∙ not-false _ (c .before .before .before .before .before .before .before .before .before .before .before .before .before .before .before .before .before .if1 .left)) (c .before .before .before .before .before .before .before .before .before .before .before .before .before .before .before .before .event-of .ensures) (c .before .before .before .before .before .before .before .before .before .before .before .before .before .before .asked2 .given .1) (c .before .before .before .before .before .before .before .before .before .before .before .state-of2 .ensures) (c .before .before .before .before .before .before .before .before .step .ensures) (c .before .before .finish .ensures .0) (c .before .before .finish .ensures .1)))
+    step-answers (s .args .state .now) (s .args .kind) (s .args .value) (lent (s .args .samples .now) (s .args .sampled) (s .args .actions .now) (s .args .acted) (s .args .replies .now) (s .args .replied)) (sym (c .before .before .before .before .before .before .before .before .before .before .before .before .before .before .before .before .before .before .is-state .ensures) ∙ not-false _ (c .before .before .before .before .before .before .before .before .before .before .before .before .before .before .before .before .before .if1 .left)) (c .before .before .before .before .before .before .before .before .before .before .before .before .before .before .before .before .event-of .ensures) (c .before .before .before .before .before .before .before .before .before .before .before .before .before .before .asked2 .given .1) (c .before .before .before .before .before .before .before .before .before .before .before .state-of2 .ensures) (c .before .before .before .before .before .before .before .before .step .result) (c .before .before .before .before .before .before .before .before .step .ensures) (c .before .before .finish .ensures .0) (c .before .before .finish .ensures .1)))
