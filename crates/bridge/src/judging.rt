@@ -11,18 +11,22 @@ use grammar::Context;
 use grammar::Interface;
 use refusals::Refusal;
 use registers::State;
+use registers::parts::bits_of;
+use registers::parts::i2c_selected;
+use registers::parts::one_wire_selected;
+use registers::parts::spi_selected;
 
 // The interface that the flags select.
 fn interface(flags: u8) -> Interface
     ensures { λ r. ⌜ r ≡ interfaceOf flags ⌝ }
 {
-    if flags % 2 == 1 {
+    if i2c_selected(flags) {
         return Interface::I2C;
     }
-    if flags / 2 % 2 == 1 {
+    if spi_selected(flags) {
         return Interface::SPI;
     }
-    if flags / 4 % 2 == 1 {
+    if one_wire_selected(flags) {
         return Interface::OneWire;
     }
     Interface::NoInterface
@@ -37,7 +41,7 @@ fn context(s: State) -> Context
     Context {
         interface: i,
         configured: s.page.configured,
-        bits: s.page.size + 1,
+        bits: bits_of(s.page.size),
     }
 }
 

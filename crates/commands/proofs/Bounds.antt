@@ -6,18 +6,15 @@ use mathlib.Core.List.{List, [], _∷_, map}
 use native.Mathlib.Omega.{arith}
 use lib.ListN.{length}
 use Rattle.packet.specs.Packet.{width, registerBytes, packetBytes, lowBytes}
-use Rattle.packet.proofs.Bytes.{length-register}
 use Rattle.packet.proofs.Loads.{length-low}
 use Rattle.codes.proofs.Both.{both-left, both-right}
-use Rattle.registers.specs.Registers.{reportsOn, bitsIn, withReceived}
+use Rattle.registers.specs.Registers.{reportsOn, bitsIn, withReceived, timingBytes, imageBytes, serialBytes}
 use Rattle.registers.specs.Ranges.{InRange, Sized}
-use Rattle.registers.specs.declared.Page.{Page}
 use Rattle.registers.specs.declared.State.{State}
 use Rattle.registers.specs.declared.Event.{Event}
 use Rattle.signals.specs.Waveforms.{waveOf}
 use Rattle.signals.proofs.Counts.{wave-few}
-use Rattle.signals.specs.declared.Waveform.{Waveform}
-use Rattle.signals.specs.declared.Waveform.the-variants as w
+use Rattle.signals.proofs.Packets.{wave-packet}
 use Rattle.commands.specs.Said.{returned, sent, repliesOf}
 use Rattle.commands.specs.Decisions.{Decision, Change, Answer, Silent, Returns, ReturnsTwice, ReturnsAndSends, Checked, Sends, SendsSample, SendsLevel, SendsEprom, SendsSerial, SendsTimings, SendsPacket, SendsLow, ReturnsThenLow}
 use Rattle.commands.specs.Changes.{changed}
@@ -42,9 +39,9 @@ replyCount reports s (Checked k) = cond reports 1 0
 replyCount reports s (Sends x) = 1
 replyCount reports s SendsSample = 1
 replyCount reports s SendsLevel = 1
-replyCount reports s SendsEprom = 10
-replyCount reports s SendsSerial = 4
-replyCount reports s SendsTimings = 9
+replyCount reports s SendsEprom = imageBytes
+replyCount reports s SendsSerial = serialBytes
+replyCount reports s SendsTimings = timingBytes
 replyCount reports s SendsPacket = registerBytes
 replyCount reports s SendsLow = packetBytes (bitsIn (s .page))
 replyCount reports s ReturnsThenLow = cond reports 1 0 + packetBytes (bitsIn (s .page))
@@ -75,9 +72,9 @@ module _ (s : State) (z : Sized s) (h : s .page .size < width) where
   reply-count on x (Sends v) = refl
   reply-count on x SendsSample = refl
   reply-count on x SendsLevel = refl
-  reply-count on x SendsEprom = data-count on (s .shared .eprom) 10 (z .eprom)
-  reply-count on x SendsSerial = data-count on (s .shared .serial) 4 (z .serial)
-  reply-count on x SendsTimings = data-count on (s .page .timings) 9 (z .timings)
+  reply-count on x SendsEprom = data-count on (s .shared .eprom) imageBytes (z .eprom)
+  reply-count on x SendsSerial = data-count on (s .shared .serial) serialBytes (z .serial)
+  reply-count on x SendsTimings = data-count on (s .page .timings) timingBytes (z .timings)
   reply-count on x SendsPacket = data-count on (s .page .packet) registerBytes (z .packet)
   reply-count on x SendsLow = data-count on (lowBytes (bitsIn (s .page)) (s .page .packet)) _ low-count
   reply-count on x ReturnsThenLow = coded-count on 0x00 (lowBytes (bitsIn (s .page)) (s .page .packet)) _ low-count
@@ -102,30 +99,6 @@ module _ (s : State) (z : Sized s) (h : s .page .size < width) where
 
 sized-after : (s : State) (r : List ℕ) → Sized s → length r ≡ registerBytes → Sized (withReceived s r)
 sized-after s r z e = record { eprom = z .eprom; serial = z .serial; packet = e; timings = z .timings }
-
--- a waveform leaves a register of the same size
-wave-packet : (q : Page) (a : Waveform) (ss : List ℕ) (m : ℕ) → length (q .packet) ≡ registerBytes → length ((waveOf q a ss m) .packet) ≡ registerBytes
-unfolding waveOf
-wave-packet q w.Still ss m e = e
-wave-packet q w.Reinit ss m e = e
-wave-packet q (w.ReinitHigh b) ss m e = e
-wave-packet q (w.Line b c) ss m e = e
-wave-packet q (w.Port b c d) ss m e = e
-wave-packet q (w.PortPulse b c d f g) ss m e = e
-wave-packet q (w.Pb7Pulse b c) ss m e = e
-wave-packet q (w.SampleLine b) ss m e = e
-wave-packet q (w.SamplePort b) ss m e = e
-wave-packet q w.Start ss m e = e
-wave-packet q w.Stop ss m e = e
-wave-packet q (w.WriteI2c b) ss m e = e
-wave-packet q (w.ReadI2c b) ss m e = e
-wave-packet q w.Exchange ss m e = length-register registerBytes _
-wave-packet q w.ResetOneWire ss m e = e
-wave-packet q (w.WriteOneWire b) ss m e = e
-wave-packet q (w.WriteOneWireBit b) ss m e = e
-wave-packet q (w.WriteOneWireStrong b) ss m e = e
-wave-packet q w.ReadOneWire ss m e = e
-wave-packet q w.ReadOneWireBit ss m e = e
 
 module _ (s : State) (n : InRange s) (z : Sized s) (on : Bool) (x : ℕ) where
   abbrev Few : Answer → State → List ℕ → Type 0

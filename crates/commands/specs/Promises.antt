@@ -7,7 +7,7 @@ use lib.ListN.{length}
 use Rattle.codes.specs.Codes.{rejecting}
 use Rattle.wire.specs.Sample.{samplings, SameFrom}
 use Rattle.packet.specs.Packet.{width}
-use Rattle.registers.specs.Registers.{withPage, withError}
+use Rattle.registers.specs.Registers.{withPage, withError, imageBytes}
 use Rattle.registers.specs.Ranges.{InRange, Sized}
 use Rattle.registers.specs.declared.State.{State}
 use Rattle.registers.specs.declared.Event.{Event}
@@ -46,7 +46,7 @@ abbrev pub mostActions : ℕ
 mostActions = 1 + 4 * width
 
 abbrev pub mostReplies : ℕ
-mostReplies = 10
+mostReplies = imageBytes
 
 abbrev pub FewActions : State → Event → List ℕ → ℕ → Type 0
 FewActions s e ss m = InRange s → length ((effectOf s e ss m) .actions) ≤ mostActions

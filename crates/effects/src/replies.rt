@@ -11,6 +11,7 @@ use crate::Responded;
 use crate::returning::checked;
 use commands::Answer;
 use registers::State;
+use registers::parts::reports_on;
 
 // Data sent: ERROR stays.
 fn send(s: State, reply: Reply) -> Responded
@@ -24,7 +25,7 @@ fn store(mut s: State, code: u8) -> Responded
     ensures { λ r. ⌜ response (r .state) (replyBytes (r .state) (r .reply)) ≡ responseOf s (returned code ∷ []) ⌝ }
 {
     s.page.error = code;
-    if s.page.flags / 8 % 2 == 1 {
+    if reports_on(s.page.flags) {
         return Responded {
             state: s,
             reply: Reply::One(code),
@@ -41,7 +42,7 @@ fn store_twice(mut s: State) -> Responded
     ensures { λ r. ⌜ response (r .state) (replyBytes (r .state) (r .reply)) ≡ responseOf s (returned 0 ∷ returned 0 ∷ []) ⌝ }
 {
     s.page.error = codes::NO_ERROR;
-    if s.page.flags / 8 % 2 == 1 {
+    if reports_on(s.page.flags) {
         return Responded {
             state: s,
             reply: Reply::Two(codes::NO_ERROR, codes::NO_ERROR),
@@ -69,7 +70,7 @@ fn store_then_low(mut s: State, x: u8) -> Responded
     ensures { λ r. ⌜ response (r .state) (replyBytes (r .state) (r .reply)) ≡ responseOf s (saidOf s x Answer.ReturnsThenLow) ⌝ }
 {
     s.page.error = codes::NO_ERROR;
-    if s.page.flags / 8 % 2 == 1 {
+    if reports_on(s.page.flags) {
         return Responded {
             state: s,
             reply: Reply::OneThenLow(codes::NO_ERROR),

@@ -7,6 +7,7 @@ ghost use Rattle.wire.specs.Buffer.{Written};
 ghost use Rattle.effects.specs.Replies.{replyBytes};
 use crate::Reply;
 use registers::State;
+use registers::parts::bits_of;
 
 // An array's length is read through a slice, so that no size stands here as a number.
 fn size(bytes: &[u8]) -> usize
@@ -33,7 +34,7 @@ pub fn reply_size(s: State, reply: Reply) -> usize
     requires { ⌜ s .page .size < width ⌝ }
     ensures { λ n. ⌜ n ≡ length (replyBytes s reply) ⌝ }
 {
-    let bits = s.page.size + 1;
+    let bits = bits_of(s.page.size);
     match reply {
         Reply::Empty => 0,
         Reply::One(_) => 1,
@@ -87,7 +88,7 @@ pub fn put_reply(out: &mut [u8], s: State, reply: Reply) -> usize
     requires { ⌜ (s .page .size < width) × (length (replyBytes s reply) ≤ length (now out)) ⌝ }
     ensures { λ n. ⌜ Written (now (out .entry)) 0 (replyBytes s reply) (now (out .exit)) n ⌝ }
 {
-    let bits = s.page.size + 1;
+    let bits = bits_of(s.page.size);
     match reply {
         Reply::Empty => 0,
         Reply::One(a) => wire::put_bytes(out, 0, &[a]),

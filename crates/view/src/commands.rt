@@ -49,12 +49,12 @@ fn selected(row: usize, flags: u8) -> bool {
         return true;
     }
     if code < 0x40 {
-        return flags % 2 == 1;
+        return registers::parts::i2c_selected(flags);
     }
     if code < 0x60 {
-        return flags / 2 % 2 == 1;
+        return registers::parts::spi_selected(flags);
     }
-    flags / 4 % 2 == 1
+    registers::parts::one_wire_selected(flags)
 }
 
 fn say_command(row: usize, flags: u8) {

@@ -1,4 +1,4 @@
--- The interface is the flags'.
+-- The interface is the flags', and N the size register's.
 use borrow.Author.Needs.{needs}
 use Rattle.bridge.proofs.judging.context.Statement.{statement}
 use Rattle.bridge.proofs.judging.context.Tie as tie
@@ -8,5 +8,5 @@ context-spec =
     tie.close
     (tie.spec
     (λ c κs. search needs)
-    (λ c. search needs)
-    (λ c. rw (c .before .interface .ensures)))
+    (λ c κs. search needs)
+    (λ c. rw (c .before .interface .ensures, c .bits-of .ensures)))

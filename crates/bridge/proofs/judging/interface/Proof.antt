@@ -1,5 +1,5 @@
 -- Flag by flag.
-use borrow.Author.Tests.{eq-eqb, ne-eqb}
+use borrow.Author.Needs.{needs}
 use Rattle.bridge.proofs.judging.interface.Statement.{statement}
 use Rattle.bridge.proofs.judging.interface.Tie as tie
 
@@ -7,7 +7,10 @@ pub interface-spec : {M : Type 1} → statement M
 interface-spec =
     tie.close
     (tie.spec
-    (λ c. rw (eq-eqb _ _ (c .if1 .taken)))
-    (λ c. rw (ne-eqb _ _ (c .before .if1 .left), eq-eqb _ _ (c .if2 .taken)))
-    (λ c. rw (ne-eqb _ _ (c .before .before .if1 .left), ne-eqb _ _ (c .before .if2 .left), eq-eqb _ _ (c .if3 .taken)))
-    (λ c. rw (ne-eqb _ _ (c .before .before .if1 .left), ne-eqb _ _ (c .before .if2 .left), ne-eqb _ _ (c .if3 .left))))
+    (λ c κs. search needs)
+    (λ c. rw (← c .before .i2c-selected .ensures, c .if1 .taken))
+    (λ c κs. search needs)
+    (λ c. rw (← c .before .before .before .i2c-selected .ensures, c .before .before .if1 .left, ← c .before .spi-selected .ensures, c .if2 .taken))
+    (λ c κs. search needs)
+    (λ c. rw (← c .before .before .before .before .before .i2c-selected .ensures, c .before .before .before .before .if1 .left, ← c .before .before .before .spi-selected .ensures, c .before .before .if2 .left, ← c .before .one-wire-selected .ensures, c .if3 .taken))
+    (λ c. rw (← c .before .before .before .before .before .i2c-selected .ensures, c .before .before .before .before .if1 .left, ← c .before .before .before .spi-selected .ensures, c .before .before .if2 .left, ← c .before .one-wire-selected .ensures, c .if3 .left)))

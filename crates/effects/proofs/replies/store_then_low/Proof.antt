@@ -1,5 +1,6 @@
 -- By whether reports are on; data sent leaves ERROR.
-use borrow.Author.Tests.{eq-eqb, ne-eqb}
+use borrow.Author.Needs.{needs}
+use mathlib.Core.Path.{sym, _∙_}
 use mathlib.Core.Bool.{true, false}
 use Rattle.packet.specs.Packet.{lowBytes}
 use Rattle.registers.specs.Registers.{bitsIn}
@@ -11,5 +12,6 @@ pub store-then-low-spec : {M : Type 1} → statement M
 store-then-low-spec =
     tie.close
     (tie.spec
-    (λ c. coded (c .before .before .before .args .s) (lowBytes (bitsIn (c .before .before .before .args .s .page)) (c .before .before .before .args .s .page .packet)) 0x00 true (eq-eqb _ _ (c .if1 .taken)))
-    (λ c. coded (c .before .before .before .args .s) (lowBytes (bitsIn (c .before .before .before .args .s .page)) (c .before .before .before .args .s .page .packet)) 0x00 false (ne-eqb _ _ (c .if1 .left))))
+    (λ c κs. search needs)
+    (λ c. coded (c .before .before .before .args .s) (lowBytes (bitsIn (c .before .before .before .args .s .page)) (c .before .before .before .args .s .page .packet)) 0x00 true (sym (c .before .reports-on .ensures) ∙ c .if1 .taken))
+    (λ c. coded (c .before .before .before .args .s) (lowBytes (bitsIn (c .before .before .before .args .s .page)) (c .before .before .before .args .s .page .packet)) 0x00 false (sym (c .before .reports-on .ensures) ∙ c .if1 .left)))

@@ -34,5 +34,5 @@ reply-size-spec =
     (λ c. rw (c .before .before .before .enum-told5 .given .1) (c .size2 .ensures))
     (λ c. rw (c .before .before .enum-told6 .given .1) (c .timings-size .ensures))
     (λ c. rw (c .before .before .enum-told7 .given .1) (c .packet-size .ensures))
-    (λ c. rw (c .before .before .enum-told8 .given .1) (c .low-size .ensures .0))
-    (λ c. rw (c .before .before .enum-told9 .given .1) (omega (arith, c .low-size2 .ensures .0))))
+    (λ c. rw (c .before .before .enum-told8 .given .1, ← c .before .before .before .before .bits-of .ensures) (c .low-size .ensures .0))
+    (λ c. rw (c .before .before .enum-told9 .given .1, ← c .before .before .before .before .bits-of .ensures) (omega (arith, c .low-size2 .ensures .0))))
