@@ -1,6 +1,7 @@
 -- THEOREM: a byte's effect agrees with the grammar's scanner, seen through the view of the state. Assumes nothing.
-use Prim.Native.Nat.{ℕ, _+_, _<_}
+use Prim.Native.Nat.{ℕ, _<_}
 use mathlib.Core.Path.{refl, sym, subst}
+use mathlib.Core.Bool.{true, false}
 use mathlib.Core.List.{List}
 use Rattle.grammar.specs.Scanner.{Opening, opened, scanAt, scan}
 use Rattle.grammar.proofs.Follows.{Agree}
@@ -30,11 +31,11 @@ module _ (page : Page) (shared : Shared) (held : List ℕ) (b : ℕ) (h : b < 25
   decision-agrees : (a : Wait) → InRange (at a) → DecisionAgrees (at a) (scanAt (placeOf a) (contextOf (at a)) b) (byteDecision (at a) a b)
   decision-agrees v.Nothing n =
       let s = at v.Nothing in
-      subst (λ (o : Opening). DecisionAgrees s (opened o (contextOf s) b) (commandDecision s (commandOf b))) (sym (opening-is b h)) (command-agrees page shared held b (n .page .one-interface) (commandOf b) (between-is b h))
+      subst (λ (o : Opening). DecisionAgrees s (opened o (contextOf s) b) (commandDecision s (commandOf false b))) (sym (opening-is b h)) (command-agrees page shared held b (n .page .one-interface) (commandOf false b) (between-is b))
   decision-agrees (v.One a) n = operand-agrees (at (v.One a)) b a
   decision-agrees v.Extended n =
       let s = at v.Extended in
-      subst (λ (o : Opening). DecisionAgrees s (opened o (contextOf s) b) (commandDecision s (commandOf (0x1D00 + b)))) (sym (extension-is b h)) (after-agrees s b (commandOf (0x1D00 + b)) (extended-is b h))
+      subst (λ (o : Opening). DecisionAgrees s (opened o (contextOf s) b) (commandDecision s (commandOf true b))) (sym (extension-is b h)) (after-agrees s b (commandOf true b) (extended-is b))
   decision-agrees (v.Packet left exchange) n =
       let s = at (v.Packet left exchange) in
       packet-agrees s b left exchange (packet-left s left exchange n refl .0)

@@ -1,5 +1,5 @@
--- The grammar's command list and the bridge's table say the same of every byte: computed over all of them. Assumes nothing.
-use Prim.Native.Nat.{ℕ, _+_, _<_}
+-- The grammar's command list and the bridge's tables say the same of every byte: computed over all of them. Assumes nothing.
+use Prim.Native.Nat.{ℕ, _<_}
 use mathlib.Core.Path.{_≡_, refl}
 use mathlib.Core.Bool.{Bool, true, false}
 use Rattle.grammar.specs.Grammar.{Needs, Common, Selected, Configured, Operands, None, One, Nine, Packet, commands, extendedCommands}
@@ -8,7 +8,8 @@ use Rattle.grammar.specs.declared.Interface.the-variants.{I2C, SPI, OneWire}
 use Rattle.grammar.specs.declared.ContextChange.{ContextChange}
 use Rattle.grammar.specs.declared.ContextChange.the-variants.{Keep, Clear, Select, Configure, Resize}
 use Rattle.grammar.proofs.Lookups.{values, byte-fact}
-use Rattle.commands.specs.Commands.{commandOf}
+use Rattle.codes.proofs.Lookup.{found-all}
+use Rattle.commands.specs.Commands.{extendedTable, commandTable, commandOf}
 use Rattle.commands.specs.declared.Command.{Command}
 use Rattle.commands.specs.declared.Command.the-variants as k
 use Rattle.commands.specs.declared.CommonCommand.{CommonCommand}
@@ -95,19 +96,19 @@ commandOpening b k.Unknown = Unknown
 
 -- ALL BYTES, between commands and after 1D
 
-openings : values openingOf 256 0 ≡ values (λ (b : ℕ). commandOpening b (commandOf b)) 256 0
+openings : values openingOf 256 0 ≡ values (λ (b : ℕ). commandOpening b (commandOf false b)) 256 0
 unfolding openingOf commands
 openings = refl
 
-extensions : values extensionOf 256 0 ≡ values (λ (b : ℕ). commandOpening b (commandOf (0x1D00 + b))) 256 0
+extensions : values extensionOf 256 0 ≡ values (λ (b : ℕ). commandOpening b (commandOf true b)) 256 0
 unfolding extensionOf extendedCommands
 extensions = refl
 
-pub opening-is : (b : ℕ) → b < 256 → openingOf b ≡ commandOpening b (commandOf b)
-opening-is b h = byte-fact openingOf (λ (b : ℕ). commandOpening b (commandOf b)) openings b h
+pub opening-is : (b : ℕ) → b < 256 → openingOf b ≡ commandOpening b (commandOf false b)
+opening-is b h = byte-fact openingOf (λ (b : ℕ). commandOpening b (commandOf false b)) openings b h
 
-pub extension-is : (b : ℕ) → b < 256 → extensionOf b ≡ commandOpening b (commandOf (0x1D00 + b))
-extension-is b h = byte-fact extensionOf (λ (b : ℕ). commandOpening b (commandOf (0x1D00 + b))) extensions b h
+pub extension-is : (b : ℕ) → b < 256 → extensionOf b ≡ commandOpening b (commandOf true b)
+extension-is b h = byte-fact extensionOf (λ (b : ℕ). commandOpening b (commandOf true b)) extensions b h
 
 -- a command of a byte between commands, and of one after 1D
 abbrev pub isBetween : Command → Bool
@@ -126,8 +127,8 @@ isExtended (k.Spi c) = false
 isExtended (k.OneWire c) = false
 isExtended k.Unknown = true
 
-pub between-is : (b : ℕ) → b < 256 → isBetween (commandOf b) ≡ true
-between-is b h = byte-fact (λ (b : ℕ). isBetween (commandOf b)) (λ (b : ℕ). true) refl b h
+pub between-is : (b : ℕ) → isBetween (commandOf false b) ≡ true
+between-is b = found-all isBetween k.Unknown b commandTable refl refl
 
-pub extended-is : (b : ℕ) → b < 256 → isExtended (commandOf (0x1D00 + b)) ≡ true
-extended-is b h = byte-fact (λ (b : ℕ). isExtended (commandOf (0x1D00 + b))) (λ (b : ℕ). true) refl b h
+pub extended-is : (b : ℕ) → isExtended (commandOf true b) ≡ true
+extended-is b = found-all isExtended k.Unknown b extendedTable refl refl

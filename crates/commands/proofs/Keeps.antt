@@ -1,5 +1,5 @@
 -- Every event keeps the ranges: what its decision changes fits them. Assumes nothing.
-use Prim.Native.Nat.{ℕ, _-_, _+_, _≤_}
+use Prim.Native.Nat.{ℕ, _-_, _≤_}
 use mathlib.Core.Path.{_≡_, refl}
 use mathlib.Core.Bool.{Bool, true, false, not, cond, _&&_}
 use mathlib.Core.List.{List}
@@ -155,9 +155,9 @@ module _ (s : State) (n : InRange s) where
       go false z = l (eqb-false left 1 z)
 
   byte-fits : (a : Wait) (b : ℕ) → s .wait ≡ a → Fit (byteDecision s a b)
-  byte-fits v.Nothing b z = decided-fits (rw z (λ f c n. tt)) (commandOf b) _ refl
+  byte-fits v.Nothing b z = decided-fits (rw z (λ f c n. tt)) (commandOf false b) _ refl
   byte-fits (v.One a) b z = operand-fits a b
-  byte-fits v.Extended b z = decided-fits (rw z (λ f c n. tt)) (commandOf (0x1D00 + b)) _ refl
+  byte-fits v.Extended b z = decided-fits (rw z (λ f c n. tt)) (commandOf true b) _ refl
   byte-fits (v.Packet left exchange) b z =
       let t = wait-as s (v.Packet left exchange) n z in
       last-or-not left _ _ (loaded-fits _ b exchange) (λ ne. record { spi-selected = t .spi-selected; spi-configured = t .spi-configured; one-or-more = below-one left (t .one-or-more) ne; packet-or-less = omega (arith, t .packet-or-less) })

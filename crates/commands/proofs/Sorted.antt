@@ -1,6 +1,6 @@
 -- Every decision is proper or a rejection: its answer rejects nothing, and is short unless the state stays, and its waveform's verb samples
--- nothing; or it returns a code and does nothing else. Computed over the table of commands. Assumes nothing.
-use Prim.Native.Nat.{ℕ, _+_}
+-- nothing; or it returns a code and does nothing else. Computed over the tables of commands. Assumes nothing.
+use Prim.Native.Nat.{ℕ}
 use mathlib.Core.Path.{_≡_, refl}
 use mathlib.Core.Bool.{Bool, true, false, _&&_, _||_}
 use lib.Dec.{eqb}
@@ -18,7 +18,7 @@ use Rattle.registers.specs.declared.Event.{Event}
 use Rattle.registers.specs.declared.Event.the-variants as e
 use Rattle.signals.specs.declared.Waveform.{Waveform}
 use Rattle.signals.specs.declared.Waveform.the-variants as w
-use Rattle.commands.specs.Commands.{Command, commandTable, commandOf}
+use Rattle.commands.specs.Commands.{Command, extendedTable, commandTable, commandOf}
 use Rattle.commands.specs.Decisions.{Change, Decision, ReturnsAndSends, returns, sends}
 use Rattle.commands.specs.Legality.{Legality, Legal, Rejected, legalityOf, readsConfiguration}
 use Rattle.commands.specs.Operands.{operandClause, loadedClause}
@@ -78,12 +78,13 @@ pub data Sorted (d : Decision) : Type 0 where
   coded-and-sent : (code : ℕ) → d ≡ sends (ReturnsAndSends code) → Sorted d
 
 module _ (s : State) where
-  clause-proper : (code : ℕ) → proper (clauseOf s (commandOf code)) ≡ true
-  clause-proper code = found-all (λ (x : Command). proper (clauseOf s x)) k.Unknown code commandTable refl refl
+  clause-proper : (extended : Bool) (b : ℕ) → proper (clauseOf s (commandOf extended b)) ≡ true
+  clause-proper true b = found-all (λ (x : Command). proper (clauseOf s x)) k.Unknown b extendedTable refl refl
+  clause-proper false b = found-all (λ (x : Command). proper (clauseOf s x)) k.Unknown b commandTable refl refl
 
-  decided-sorted : (code : ℕ) (l : Legality) → Sorted (commandDecided s (commandOf code) l)
-  decided-sorted code Legal = is-proper (clause-proper code)
-  decided-sorted code (Rejected k) = either Sorted (eqb k 0x40 && readsConfiguration (commandOf code)) _ _ (coded-and-sent k refl) (coded k refl)
+  decided-sorted : (extended : Bool) (b : ℕ) (l : Legality) → Sorted (commandDecided s (commandOf extended b) l)
+  decided-sorted extended b Legal = is-proper (clause-proper extended b)
+  decided-sorted extended b (Rejected k) = either Sorted (eqb k 0x40 && readsConfiguration (commandOf extended b)) _ _ (coded-and-sent k refl) (coded k refl)
 
   port-sorted : (a : PortRegister) (b : ℕ) → Sorted (operandClause (s .page) (o.ToPort a) b)
   port-sorted r.Ddrb b = is-proper refl
@@ -108,9 +109,9 @@ module _ (s : State) where
   loaded-sorted at b false = is-proper refl
 
   byte-sorted : (a : Wait) (b : ℕ) → Sorted (byteDecision s a b)
-  byte-sorted v.Nothing b = decided-sorted b (legalityOf (s .page .flags) (s .page .configured) (commandOf b))
+  byte-sorted v.Nothing b = decided-sorted false b (legalityOf (s .page .flags) (s .page .configured) (commandOf false b))
   byte-sorted (v.One a) b = operand-sorted a b
-  byte-sorted v.Extended b = decided-sorted (0x1D00 + b) (legalityOf (s .page .flags) (s .page .configured) (commandOf (0x1D00 + b)))
+  byte-sorted v.Extended b = decided-sorted true b (legalityOf (s .page .flags) (s .page .configured) (commandOf true b))
   byte-sorted (v.Packet left exchange) b = either Sorted (eqb left 1) _ _ (loaded-sorted _ b exchange) (is-proper refl)
   byte-sorted (v.Timings left) b = either Sorted (eqb left 1) _ _ (is-proper refl) (is-proper refl)
 

@@ -1,5 +1,4 @@
--- Every command that 01 lists, in 01's order: one type, and one table from codes to it. A code is a byte between commands, or 1D and
--- the byte after it as one number.
+-- Every command that 01 lists, in 01's order: one type, and its tables by the byte, between commands and after 1D.
 use Prim.Native.Nat.{ℕ}
 use mathlib.Core.Bool.{Bool, true, false}
 use mathlib.Core.List.{List, [], _∷_, _++_}
@@ -43,14 +42,14 @@ commonTable =
 -- after 1D; 00 and 04 to 07 are left out: unknown here (H)
 abbrev pub extendedTable : List (Entry Command)
 extendedTable =
-    0x1D01 is k.Extended (x.Pulse r.Portc Five up waitMicroseconds 1)
-    ∷ 0x1D02 is k.Extended (x.Pulse r.Portd Three up waitMicroseconds 1)
-    ∷ 0x1D03 is k.Extended (x.Pulse r.Portd Four down waitMicroseconds 1)
-    ∷ 0x1D08 is k.Extended (x.Pulse r.Portd Four down waitMilliseconds 25)
-    ∷ 0x1D09 is k.Extended (x.Pulse r.Portd Four down waitMilliseconds 2)
-    ∷ 0x1D0A is k.Extended (x.SetBit r.Portd Five true) ∷ 0x1D0B is k.Extended (x.SetBit r.Portd Five false)
-    ∷ 0x1D0C is k.Extended (x.SetBit r.Ddrd Five true) ∷ 0x1D0D is k.Extended (x.SetBit r.Ddrd Five false)
-    ∷ 0x1D0E is k.Extended x.LoadCycles ∷ 0x1D0F is k.Extended x.ReadCycles ∷ []
+    0x01 is k.Extended (x.Pulse r.Portc Five up waitMicroseconds 1)
+    ∷ 0x02 is k.Extended (x.Pulse r.Portd Three up waitMicroseconds 1)
+    ∷ 0x03 is k.Extended (x.Pulse r.Portd Four down waitMicroseconds 1)
+    ∷ 0x08 is k.Extended (x.Pulse r.Portd Four down waitMilliseconds 25)
+    ∷ 0x09 is k.Extended (x.Pulse r.Portd Four down waitMilliseconds 2)
+    ∷ 0x0A is k.Extended (x.SetBit r.Portd Five true) ∷ 0x0B is k.Extended (x.SetBit r.Portd Five false)
+    ∷ 0x0C is k.Extended (x.SetBit r.Ddrd Five true) ∷ 0x0D is k.Extended (x.SetBit r.Ddrd Five false)
+    ∷ 0x0E is k.Extended x.LoadCycles ∷ 0x0F is k.Extended x.ReadCycles ∷ []
 
 -- 01, "I2C"; a read carries its answering bit, "low for 23, release for 24"
 abbrev pub i2cTable : List (Entry Command)
@@ -76,7 +75,9 @@ oneWireTable =
     ∷ 0x69 is k.OneWire (q.PulsePb7 waitMicroseconds 580) ∷ 0x6A is k.OneWire (q.PulsePb7 waitMilliseconds 110) ∷ []
 
 abbrev pub commandTable : List (Entry Command)
-commandTable = commonTable ++ extendedTable ++ i2cTable ++ spiTable ++ oneWireTable
+commandTable = commonTable ++ i2cTable ++ spiTable ++ oneWireTable
 
-abbrev pub commandOf : ℕ → Command
-commandOf code = lookup k.Unknown code commandTable
+-- the command of a byte; "1D returns 00; the next byte is extended"
+abbrev pub commandOf : Bool → ℕ → Command
+commandOf true b = lookup k.Unknown b extendedTable
+commandOf false b = lookup k.Unknown b commandTable

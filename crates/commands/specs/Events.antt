@@ -1,6 +1,7 @@
 -- What each event decides and does (01, from "What goes in and comes out" to "1-Wire"): a byte by what is waited for, or a line fault.
 -- The clauses of the commands are in Common, Extended, I2c, Spi and OneWire, those of other bytes in Operands.
-use Prim.Native.Nat.{ℕ, _+_}
+use Prim.Native.Nat.{ℕ}
+use mathlib.Core.Bool.{Bool, true, false}
 use mathlib.Core.List.{List}
 use Rattle.registers.specs.Registers.{bitsIn, faultCode}
 use Rattle.registers.specs.declared.State.{State}
@@ -37,19 +38,19 @@ commandDecided s c (Rejected code) = rejects c code
 abbrev pub commandDecision : State → Command → Decision
 commandDecision s c = commandDecided s c (legalityOf (s .page .flags) (s .page .configured) c)
 
--- the code of a byte where a command may stand: after 1D it has 1D before it
-abbrev pub codeOf : Wait → ℕ → ℕ
-codeOf v.Nothing x = x
-codeOf (v.One a) x = x
-codeOf v.Extended x = 0x1D00 + x
-codeOf (v.Packet left exchange) x = x
-codeOf (v.Timings left) x = x
+-- whether the byte after 1D is waited for
+abbrev pub waitsExtended : Wait → Bool
+waitsExtended v.Nothing = false
+waitsExtended (v.One a) = false
+waitsExtended v.Extended = true
+waitsExtended (v.Packet left exchange) = false
+waitsExtended (v.Timings left) = false
 
 -- A BYTE, by what is waited for; "1D returns 00; the next byte is extended", and "after 1D a bad byte leaves the wait (H)"
 abbrev pub byteDecision : State → Wait → ℕ → Decision
-byteDecision s v.Nothing x = commandDecision s (commandOf x)
+byteDecision s v.Nothing x = commandDecision s (commandOf false x)
 byteDecision s (v.One a) x = operandClause (s .page) a x
-byteDecision s v.Extended x = commandDecision s (commandOf (0x1D00 + x))
+byteDecision s v.Extended x = commandDecision s (commandOf true x)
 byteDecision s (v.Packet left exchange) x = packetClause (bitsIn (s .page)) left exchange x
 byteDecision s (v.Timings left) x = timingsClause left x
 

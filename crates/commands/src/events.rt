@@ -4,7 +4,7 @@ ghost use Prim.Native.Nat.{_<_};
 ghost use Rattle.packet.specs.Packet.{width};
 ghost use Rattle.registers.specs.Ranges.{InRange};
 ghost use Rattle.commands.specs.Commands.{commandOf};
-ghost use Rattle.commands.specs.Events.{clauseOf, commandDecision, codeOf, byteDecision};
+ghost use Rattle.commands.specs.Events.{clauseOf, commandDecision, waitsExtended, byteDecision};
 use crate::Answer;
 use crate::Command;
 use crate::Decision;
@@ -24,9 +24,6 @@ use crate::timings;
 use registers::State;
 use registers::Wait;
 
-// The code of a byte after 1D has 1D before it.
-const AFTER_1D: u16 = 0x1D00;
-
 // What a legal command decides. The caller shows that the size register is in range.
 fn clause_of(s: State, c: Command) -> Decision
     requires { ⌜ s .page .size < width ⌝ }
@@ -42,12 +39,12 @@ fn clause_of(s: State, c: Command) -> Decision
     }
 }
 
-// A byte between commands or after 1D, by its code.
-fn command(s: State, code: u16) -> Decision
+// A byte between commands or after 1D.
+fn command(s: State, extended: bool, b: u8) -> Decision
     requires { ⌜ s .page .size < width ⌝ }
-    ensures { λ r. ⌜ r ≡ commandDecision s (commandOf code) ⌝ }
+    ensures { λ r. ⌜ r ≡ commandDecision s (commandOf extended b) ⌝ }
 {
-    let c = command_of(code);
+    let c = command_of(extended, b);
     let l = legality_of(s.page.flags, s.page.configured, c);
     match l {
         Legality::Legal => clause_of(s, c),
@@ -55,19 +52,19 @@ fn command(s: State, code: u16) -> Decision
     }
 }
 
-// The code of a byte, by what is waited for: after 1D it has 1D before it.
-fn code_of(w: Wait, x: u8) -> u16
-    ensures { λ r. ⌜ r ≡ codeOf w x ⌝ }
+// Whether the byte after 1D is waited for.
+fn waits_extended(w: Wait) -> bool
+    ensures { λ r. ⌜ r ≡ waitsExtended w ⌝ }
 {
     match w {
-        Wait::Nothing => x as u16,
-        Wait::One(_) => x as u16,
-        Wait::Extended => AFTER_1D + x as u16,
+        Wait::Nothing => false,
+        Wait::One(_) => false,
+        Wait::Extended => true,
         Wait::Packet {
             left: _,
             exchange: _,
-        } => x as u16,
-        Wait::Timings { left: _ } => x as u16,
+        } => false,
+        Wait::Timings { left: _ } => false,
     }
 }
 
@@ -78,7 +75,7 @@ pub(crate) fn byte(s: State, x: u8) -> Decision
 {
     let w = s.wait;
     match w {
-        Wait::Nothing | Wait::Extended => command(s, code_of(w, x)),
+        Wait::Nothing | Wait::Extended => command(s, waits_extended(w), x),
         Wait::One(o) => operands::clause(s, o, x),
         Wait::Packet { left, exchange } => packets::packet_byte(s.page.size, left, exchange, x),
         Wait::Timings { left } => timings::timing_byte(left, x),
