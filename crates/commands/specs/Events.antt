@@ -1,5 +1,6 @@
 -- What each event decides and does (01, from "What goes in and comes out" to "1-Wire"): a byte by what is waited for, or a line fault.
--- The clauses of the commands are in Common, Extended, I2c, Spi and OneWire, those of other bytes in Operands.
+-- The clauses of the commands are in Common, Extended, I2c, Spi and OneWire, those of other bytes in Operands; which command is
+-- rejected is in Legality, what a change means in Changes.
 use Prim.Native.Nat.{ℕ}
 use mathlib.Core.Bool.{Bool, true, false}
 use mathlib.Core.List.{List}
