@@ -46,10 +46,10 @@ fn command(s: State, extended: bool, b: u8) -> Decision
 {
     let c = command_of(extended, b);
     let l = legality_of(s.page.flags, s.page.configured, c);
-    match l {
-        Legality::Legal => clause_of(s, c),
-        Legality::Rejected(code) => rejected(c, code),
+    if let Legality::Rejected(code) = l {
+        return rejected(c, code);
     }
+    clause_of(s, c)
 }
 
 // Whether the byte after 1D is waited for.

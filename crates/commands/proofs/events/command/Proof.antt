@@ -1,4 +1,4 @@
--- The command of the code, legal or rejected.
+-- The command of the byte, rejected or legal.
 use borrow.Author.Needs.{needs}
 use Rattle.commands.proofs.events.command.Statement.{statement}
 use Rattle.commands.proofs.events.command.Tie as tie
@@ -11,7 +11,7 @@ command-spec =
     (λ c κs. search needs)
     (λ c. search needs)
     (λ c κs. search needs)
+    (λ c. rw (← c .before .before .before .before .before .command-of .ensures, ← c .before .before .before .before .legality-of .ensures, c .before .before .l .given .1) (c .rejected .ensures))
     (λ c. search needs)
     (λ c κs. search needs)
-    (λ c. rw (← c .before .before .before .before .command-of .ensures, ← c .before .before .before .legality-of .ensures, c .before .enum-told .given .1) (c .clause-of .ensures))
-    (λ c. rw (← c .before .before .before .before .before .command-of .ensures, ← c .before .before .before .before .legality-of .ensures, c .before .before .l .given .1) (c .rejected .ensures)))
+    (λ c. rw (← c .before .before .before .before .command-of .ensures, ← c .before .before .before .legality-of .ensures, c .before .enum-told .given .1) (c .clause-of .ensures)))
