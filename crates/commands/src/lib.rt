@@ -27,7 +27,7 @@ use signals::Waveform;
 pub enum Answer {
     Silent,
     Returns(u8),
-    ReturnsTwice,
+    SendsLow,
     ReturnsAndSends(u8),
     Checked(u8),
     Sends(u8),
@@ -37,7 +37,7 @@ pub enum Answer {
     SendsSerial,
     SendsTimings,
     SendsPacket,
-    SendsLow,
+    ReturnsTwice,
     ReturnsThenLow,
 }
 

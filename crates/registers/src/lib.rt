@@ -28,11 +28,11 @@ pub const HELD: usize = 9;
 // timings. Their order here says nothing; it is the one that compiles best.
 pub struct Page {
     pub flags: u8,
+    pub size: u8,
     pub packet: [u8; packet::BYTES],
     pub ddrc: u8,
     pub config: u8,
     pub ddrd: u8,
-    pub size: u8,
     pub portd: u8,
     pub portc: u8,
     pub timings: [u8; TIMINGS],
@@ -45,9 +45,9 @@ pub struct Page {
 // What is not a register: the EPROM image, the version, the IOG count and the serial number, low byte first. Their order, too, is the one
 // that compiles best.
 pub struct Shared {
-    pub cycles: u8,
-    pub serial: [u8; SERIAL],
     pub version: u8,
+    pub serial: [u8; SERIAL],
+    pub cycles: u8,
     pub eprom: [u8; IMAGE],
 }
 
@@ -61,15 +61,15 @@ pub enum PortRegister {
     Portd,
 }
 
-// The operand that is waited for, by what it goes to.
+// The operand that is waited for, by what it goes to. The order here and in `Wait` says nothing; it is the one that compiles best.
 pub enum Operand {
     ToPort(PortRegister),
     ToCycles,
     ToI2c,
     ToConfig,
-    ToSize,
-    ToOneWire,
     ToOneWireBit,
+    ToOneWire,
+    ToSize,
     ToOneWireStrong,
 }
 
@@ -77,16 +77,16 @@ pub enum Operand {
 // that an exchange follows the packet.
 pub enum Wait {
     Nothing,
-    One(Operand),
-    Extended,
-    Packet { left: u8, exchange: bool },
     Timings { left: u8 },
+    One(Operand),
+    Packet { left: u8, exchange: bool },
+    Extended,
 }
 
 // The state; `held` has the packet or timing bytes that came in for the wait so far.
 pub struct State {
-    pub held: [u8; HELD],
     pub shared: Shared,
+    pub held: [u8; HELD],
     pub page: Page,
     pub wait: Wait,
 }

@@ -23,5 +23,5 @@ measure-exchange-spec =
     (λ c.
     let s = c .before in
     let p = s .args .page in
-    let l : length (p .packet) ≡ registerBytes = sym (length-map (p .packet) _) ∙ s .good .0 .1 .1 .1 .0 .1 .0 .1 in
+    let l : length (p .packet) ≡ registerBytes = sym (length-map (p .packet) _) ∙ s .good .0 .1 .1 .1 .1 .0 .1 .0 .1 in
     rw (c .bits-of .ensures) (ap (λ (k : ℕ). measured (bitsIn p) k 0) (exchange-length p (omega (arith, s .pre))))))

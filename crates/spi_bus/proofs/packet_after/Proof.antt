@@ -22,7 +22,7 @@ packet-after-spec =
     let b = c .before .before in
     let s = b .before .before .before in
     let p = s .args .page in
-    let l : length (p .packet) ≡ registerBytes = sym (length-map (p .packet) _) ∙ s .good .0 .1 .1 .1 .0 .1 .0 .1 in
+    let l : length (p .packet) ≡ registerBytes = sym (length-map (p .packet) _) ∙ s .good .0 .1 .1 .1 .1 .0 .1 .0 .1 in
     let ls = levels (s .args .samples .now) (s .args .from) (bitsIn p) in
     (rw (c .before .high-first .ensures, b .bits-of .ensures) at (c .exchange .ensures))
     ∙ exchange-right width (highFirst (p .config)) ls (p .packet) (omega arith) (omega (arith, s .pre .0, length-levels (s .args .samples .now) (s .args .from) (bitsIn p))) .holds))

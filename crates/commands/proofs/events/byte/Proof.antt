@@ -22,7 +22,7 @@ by-wait : (s : State) (w : Wait) (x : ℕ) → s .wait ≡ w → byteDecision s 
 by-wait s w x e = ap (λ (v : Wait). byteDecision s v x) (sym e)
 
 -- where nothing is waited for, or the byte after 1D, a byte is a command's
-by-command : (s : State) (w : Wait) (x : ℕ) → OneOf (0 ∷ 2 ∷ []) (tagOf wait-enum.the-type w) → commandDecision s (commandOf (waitsExtended w) x) ≡ byteDecision s w x
+by-command : (s : State) (w : Wait) (x : ℕ) → OneOf (0 ∷ 4 ∷ []) (tagOf wait-enum.the-type w) → commandDecision s (commandOf (waitsExtended w) x) ≡ byteDecision s w x
 by-command s v.Nothing x h = refl
 by-command s (v.One a) x h = ⊎-elim (λ q. absurd (omega arith)) (λ q. absurd (omega arith)) h
 by-command s v.Extended x h = refl

@@ -12,11 +12,11 @@ use Rattle.session.proofs.events.take_event.Tie as tie
 sized : (s : tie.Start) → Sized (s .args .s)
 sized s =
     let page = s .good .0 .1 .1 .1 .1 .0 in
-    let shared = s .good .0 .1 .1 .1 .0 in
+    let shared = s .good .0 .1 .1 .0 in
     record {
       eprom = sym (length-map (s .args .s .shared .eprom) _) ∙ shared .1 .1 .1 .1 .1 .0 .1 .0 .1;
       serial = sym (length-map (s .args .s .shared .serial) _) ∙ shared .1 .1 .1 .0 .1 .0 .1;
-      packet = sym (length-map (s .args .s .page .packet) _) ∙ page .1 .1 .1 .0 .1 .0 .1;
+      packet = sym (length-map (s .args .s .page .packet) _) ∙ page .1 .1 .1 .1 .0 .1 .0 .1;
       timings = sym (length-map (s .args .s .page .timings) _) ∙ page .1 .1 .1 .1 .1 .1 .1 .1 .1 .1 .0 .1 .0 .1;
     }
 
