@@ -10,7 +10,7 @@ use Rattle.state_bytes.proofs.encoding.put_page.Statement.{statement}
 use Rattle.state_bytes.proofs.encoding.put_page.Tie as tie
 
 packet-size : (s : tie.Start) → length (s .args .p .packet) ≡ registerBytes
-packet-size s = sym (length-map (s .args .p .packet) _) ∙ s .good .1 .0 .1 .1 .1 .0 .1 .0 .1
+packet-size s = sym (length-map (s .args .p .packet) _) ∙ s .good .1 .0 .1 .1 .1 .1 .0 .1 .0 .1
 
 timings-size : (s : tie.Start) → length (s .args .p .timings) ≡ timingBytes
 timings-size s = sym (length-map (s .args .p .timings) _) ∙ s .good .1 .0 .1 .1 .1 .1 .1 .1 .1 .1 .1 .1 .0 .1 .0 .1
