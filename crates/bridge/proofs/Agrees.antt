@@ -13,9 +13,9 @@ use Rattle.registers.specs.declared.Wait.{Wait}
 use Rattle.registers.specs.declared.Wait.the-variants as v
 use Rattle.registers.specs.declared.Event.the-variants as e
 use Rattle.registers.proofs.InRange.{packet-left, timings-left}
-use Rattle.commands.specs.Said.{codesOf}
+use Rattle.decisions.specs.Said.{codesOf}
 use Rattle.commands.specs.Commands.{commandOf}
-use Rattle.commands.specs.Events.{commandDecision, byteDecision, decisionOf, effectOf}
+use Rattle.decisions.specs.Events.{commandDecision, byteDecision, decisionOf, effectOf}
 use Rattle.bridge.specs.Views.{contextOf}
 use Rattle.bridge.proofs.View.{placeOf, viewOf}
 use Rattle.bridge.proofs.Openings.{opening-is, extension-is, between-is, extended-is}

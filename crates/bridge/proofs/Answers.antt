@@ -10,8 +10,8 @@ use Rattle.wire.proofs.Actions.{bytes-length, actions-count}
 use Rattle.registers.specs.Ranges.{stateFits}
 use Rattle.registers.specs.declared.State.{State}
 use Rattle.registers.specs.declared.Event.{Event}
-use Rattle.commands.specs.Said.{codesOf}
-use Rattle.commands.specs.Effects.{sentBy}
+use Rattle.decisions.specs.Said.{codesOf}
+use Rattle.decisions.specs.Effects.{sentBy}
 use Rattle.refusals.specs.declared.Refusal.the-variants.{Ranges, Samples, Actions, Replies}
 use Rattle.bridge.specs.Answering.{Bridge, Lent, effect, given, refusal, acceptance, answerOf}
 

@@ -19,15 +19,15 @@ use Rattle.registers.specs.declared.Shared.{Shared}
 use Rattle.registers.specs.declared.State.{State}
 use Rattle.registers.specs.declared.Wait.the-variants as v
 use Rattle.commands.specs.declared.Command.{Command}
-use Rattle.commands.specs.Bits.{withBit}
-use Rattle.commands.specs.Changes.{keptFlags}
+use Rattle.registers.specs.Bits.{withBit}
+use Rattle.registers.specs.Registers.{keptFlags}
 use Rattle.commands.specs.Legality.{spiNeedsConfiguration}
-use Rattle.commands.specs.Common.{commonClause}
-use Rattle.commands.specs.I2c.{i2cClause}
-use Rattle.commands.specs.Spi.{spiClause}
-use Rattle.commands.specs.OneWire.{oneWireClause}
-use Rattle.commands.specs.Events.{commandDecision}
-use Rattle.commands.specs.declared.Bit.the-variants.{Three, Four}
+use Rattle.decisions.specs.Common.{commonClause}
+use Rattle.decisions.specs.I2c.{i2cClause}
+use Rattle.decisions.specs.Spi.{spiClause}
+use Rattle.decisions.specs.OneWire.{oneWireClause}
+use Rattle.decisions.specs.Events.{commandDecision}
+use Rattle.registers.specs.declared.Bit.the-variants.{Three, Four}
 use Rattle.commands.specs.declared.Command.the-variants as k
 use Rattle.commands.specs.declared.CommonCommand.{CommonCommand}
 use Rattle.commands.specs.declared.CommonCommand.the-variants as m

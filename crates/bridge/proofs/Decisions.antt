@@ -19,18 +19,19 @@ use Rattle.grammar.proofs.Follows.{Agree}
 use Rattle.registers.specs.Registers.{withReceived}
 use Rattle.registers.specs.declared.State.{State}
 use Rattle.signals.specs.Waveforms.{waveOf}
-use Rattle.commands.specs.Said.{codesOf}
+use Rattle.decisions.specs.Said.{codesOf}
 use Rattle.commands.specs.declared.Command.{Command}
-use Rattle.commands.specs.Decisions.{returns, sends}
-use Rattle.commands.specs.declared.Decision.{Decision}
-use Rattle.commands.specs.declared.Answer.the-variants.{ReturnsAndSends}
-use Rattle.commands.specs.Legality.{legalityOf, readsConfiguration, rejects}
+use Rattle.decisions.specs.Decisions.{returns, sends}
+use Rattle.decisions.specs.declared.Decision.{Decision}
+use Rattle.decisions.specs.declared.Answer.the-variants.{ReturnsAndSends}
+use Rattle.commands.specs.Legality.{legalityOf}
+use Rattle.decisions.specs.Rejections.{readsConfiguration, rejects}
 use Rattle.commands.specs.declared.Legality.{Legality}
 use Rattle.commands.specs.declared.Legality.the-variants.{Legal, Rejected}
-use Rattle.commands.specs.Changes.{changed}
-use Rattle.commands.specs.Effects.{saidOf, effectFrom, carriedOut}
-use Rattle.commands.specs.Events.{clauseOf, commandDecided, commandDecision}
-use Rattle.commands.proofs.Answers.{accepting, accepting-said}
+use Rattle.decisions.specs.Changes.{changed}
+use Rattle.decisions.specs.Effects.{saidOf, effectFrom, carriedOut}
+use Rattle.decisions.specs.Events.{clauseOf, commandDecided, commandDecision}
+use Rattle.decisions.proofs.Answers.{accepting, accepting-said}
 use Rattle.bridge.specs.Views.{contextOf}
 use Rattle.bridge.proofs.View.{viewOf}
 use Rattle.bridge.proofs.Openings.{row}

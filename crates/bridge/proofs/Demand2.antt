@@ -13,10 +13,10 @@ use Rattle.wire.proofs.Buffers.{overwrite-right, overwrite-none}
 use Rattle.registers.specs.Ranges.{stateFits, InRange}
 use Rattle.registers.specs.declared.Event.{Event}
 use Rattle.registers.proofs.InRange.{range-test}
-use Rattle.commands.specs.Said.{codesOf}
-use Rattle.commands.specs.Effects.{Effect, sentBy}
-use Rattle.commands.proofs.Rejects.{event-rejects}
-use Rattle.commands.proofs.Samples.{event-takes, event-same}
+use Rattle.decisions.specs.Said.{codesOf}
+use Rattle.decisions.specs.Effects.{Effect, sentBy}
+use Rattle.decisions.proofs.Rejects.{event-rejects}
+use Rattle.decisions.proofs.Samples.{event-takes, event-same}
 use Rattle.refusals.specs.declared.Refusal.the-variants.{Ranges, Actions, Replies}
 use Rattle.bridge.specs.Answering.{Bridge, Taken, Lent, Given, effect, accepted, answerOf}
 use Rattle.bridge.specs.Demands.{filled, OnlyErrorChanged, Demand2, SameSamples}

@@ -8,7 +8,7 @@ use Rattle.registers.specs.declared.Wait.{Wait}
 use Rattle.registers.specs.declared.Wait.the-variants as v
 use Rattle.registers.specs.declared.Event.{Event}
 use Rattle.registers.specs.declared.Event.the-variants as e
-use Rattle.commands.proofs.Keeps.{event-keeps}
+use Rattle.decisions.proofs.Keeps.{event-keeps}
 use Rattle.grammar.specs.Scanner.{scan}
 use Rattle.grammar.specs.declared.Place.the-variants.{Between}
 use Rattle.grammar.specs.declared.Scanner.{Scanner}

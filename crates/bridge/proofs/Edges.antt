@@ -7,9 +7,9 @@ use Rattle.packet.specs.Packet.{fromHeld, kept, movedUp}
 use Rattle.grammar.specs.Grammar.{commands, extendedCommands}
 use Rattle.grammar.specs.Scanner.{openingOf, extensionOf}
 use Rattle.signals.specs.Waveforms.{waveOf}
-use Rattle.commands.specs.Said.{errorAfter, repliesOf}
-use Rattle.commands.specs.Effects.{effectFrom}
-use Rattle.commands.specs.Events.{effectOf}
+use Rattle.decisions.specs.Said.{errorAfter, repliesOf}
+use Rattle.decisions.specs.Effects.{effectFrom}
+use Rattle.decisions.specs.Events.{effectOf}
 use Rattle.bridge.specs.Answering.{answerOf}
 use Rattle.bridge.specs.Judging.{judgementOf}
 use Rattle.bridge.specs.Edges.{Edges}

@@ -2,8 +2,8 @@
 use mathlib.Core.Path.{_≡_, refl}
 use Rattle.registers.specs.declared.Fault.{Fault}
 use Rattle.registers.specs.declared.Event.the-variants as e
-use Rattle.commands.specs.Events.{effectOf}
-use Rattle.commands.specs.Effects.{effectFrom}
+use Rattle.decisions.specs.Events.{effectOf}
+use Rattle.decisions.specs.Effects.{effectFrom}
 use Rattle.bridge.specs.Answering.{Bridge, Lent, Given, answerOf}
 use Rattle.bridge.specs.Views.{contextOf}
 use Rattle.bridge.specs.Faults.{FaultKeeps}

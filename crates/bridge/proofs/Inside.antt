@@ -16,11 +16,11 @@ use Rattle.registers.specs.declared.PortRegister.the-variants as r
 use Rattle.registers.specs.declared.Operand.{Operand}
 use Rattle.registers.specs.declared.Operand.the-variants as o
 use Rattle.commands.specs.declared.Command.{Command}
-use Rattle.commands.specs.declared.Decision.{Decision}
-use Rattle.commands.specs.Changes.{changed}
-use Rattle.commands.specs.Operands.{operandClause, loadedClause, packetClause, timingsClause}
-use Rattle.commands.specs.Events.{commandDecision}
-use Rattle.commands.specs.declared.Change.the-variants as c
+use Rattle.decisions.specs.declared.Decision.{Decision}
+use Rattle.decisions.specs.Changes.{changed}
+use Rattle.decisions.specs.Operands.{operandClause, loadedClause, packetClause, timingsClause}
+use Rattle.decisions.specs.Events.{commandDecision}
+use Rattle.decisions.specs.declared.Change.the-variants as c
 use Rattle.commands.specs.declared.Command.the-variants as k
 use Rattle.commands.specs.declared.ExtendedCommand.{ExtendedCommand}
 use Rattle.commands.specs.declared.ExtendedCommand.the-variants as x

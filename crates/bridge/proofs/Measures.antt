@@ -13,12 +13,12 @@ use Rattle.registers.specs.declared.Event.{Event}
 use Rattle.signals.specs.Waveforms.{waveOf}
 use Rattle.signals.specs.Sensed.{senseOf}
 use Rattle.signals.specs.declared.Sensed.{Sensed}
-use Rattle.commands.specs.Said.{codesOf}
-use Rattle.commands.specs.Changes.{changed}
-use Rattle.commands.specs.Effects.{saidOf, effectFrom}
-use Rattle.commands.specs.declared.Decision.{Decision}
-use Rattle.commands.specs.Events.{decisionOf, effectOf}
-use Rattle.commands.proofs.Keeps.{decision-keeps}
+use Rattle.decisions.specs.Said.{codesOf}
+use Rattle.decisions.specs.Changes.{changed}
+use Rattle.decisions.specs.Effects.{saidOf, effectFrom}
+use Rattle.decisions.specs.declared.Decision.{Decision}
+use Rattle.decisions.specs.Events.{decisionOf, effectOf}
+use Rattle.decisions.proofs.Keeps.{decision-keeps}
 use Rattle.effects.specs.Replies.{replyBytes, Response, response, responseOf}
 use Rattle.effects.specs.Returning.{ReturnedBy}
 use Rattle.effects.specs.declared.Returned.{Returned}

@@ -13,7 +13,7 @@ use Rattle.wire.specs.Buffer.{fitsIn}
 use Rattle.registers.specs.Ranges.{stateFits, InRange}
 use Rattle.registers.specs.declared.Event.{Event}
 use Rattle.registers.proofs.InRange.{range-test}
-use Rattle.commands.specs.Effects.{sentBy}
+use Rattle.decisions.specs.Effects.{sentBy}
 use Rattle.refusals.specs.Refusals.{numberOf}
 use Rattle.refusals.specs.declared.Refusal.{Refusal}
 use Rattle.refusals.specs.declared.Refusal.the-variants.{Ranges, Samples, Actions, Replies, Header, Length, Passes, Kind, FaultBody, Size, Factory, Waits}

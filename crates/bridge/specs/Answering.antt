@@ -9,9 +9,9 @@ use Rattle.wire.specs.Buffer.{overwrite, fitsIn}
 use Rattle.registers.specs.Ranges.{stateFits}
 use Rattle.registers.specs.declared.State.{State}
 use Rattle.registers.specs.declared.Event.{Event}
-use Rattle.commands.specs.Said.{codesOf}
-use Rattle.commands.specs.Effects.{Effect, sentBy}
-use Rattle.commands.specs.Events.{effectOf}
+use Rattle.decisions.specs.Said.{codesOf}
+use Rattle.decisions.specs.Effects.{Effect, sentBy}
+use Rattle.decisions.specs.Events.{effectOf}
 use Rattle.effects.specs.Returning.{codesIn}
 use Rattle.refusals.specs.declared.Refusal.{Refusal}
 use Rattle.refusals.specs.declared.Refusal.the-variants.{Ranges, Samples, Actions, Replies}

@@ -18,8 +18,8 @@ use Rattle.registers.specs.Ranges.{InRange, Sized}
 use Rattle.registers.specs.declared.Event.{Event}
 use Rattle.registers.specs.declared.Event.the-variants as e
 use Rattle.registers.specs.declared.Wait.the-variants as v
-use Rattle.commands.specs.Said.{codesOf}
-use Rattle.commands.specs.Effects.{sentBy}
+use Rattle.decisions.specs.Said.{codesOf}
+use Rattle.decisions.specs.Effects.{sentBy}
 use Rattle.grammar.specs.Machines.{Machine, Call}
 use Rattle.grammar.specs.Machines as grammar
 use Rattle.grammar.specs.Following.{Leads}

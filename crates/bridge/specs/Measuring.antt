@@ -7,9 +7,9 @@ use Rattle.packet.specs.Packet.{width}
 use Rattle.registers.specs.declared.State.{State}
 use Rattle.registers.specs.declared.Event.{Event}
 use Rattle.signals.specs.Waveforms.{waveOf}
-use Rattle.commands.specs.Said.{codesOf}
-use Rattle.commands.specs.Effects.{sentBy}
-use Rattle.commands.specs.Events.{effectOf}
+use Rattle.decisions.specs.Said.{codesOf}
+use Rattle.decisions.specs.Effects.{sentBy}
+use Rattle.decisions.specs.Events.{effectOf}
 use Rattle.effects.specs.Replies.{replyBytes}
 use Rattle.effects.specs.Returning.{codesIn}
 pub use Rattle.bridge.specs.declared.measuring.Measured.{Measured}

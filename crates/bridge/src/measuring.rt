@@ -31,7 +31,7 @@ pub fn measure(s: State, event: Event, samples: &[u8], sampled: usize) -> Measur
     requires { ⌜ InRange s × (sampled ≤ length (now samples)) ⌝ }
     ensures { λ r. ⌜ MeasuredAs s event (now (samples .entry)) sampled r ⌝ }
 {
-    let d = commands::decision_of(s, event);
+    let d = decisions::decision_of(s, event);
     let change = d.change;
     let changed = effects::changes::apply(s, change);
     let page = changed.page;

@@ -1,13 +1,2 @@
--- Laws that the proofs of this crate and of the crates above cite.
-pub mod Choices
-pub mod Sent
-pub mod OneBit
-pub mod KeptParts
-pub mod Changes
+-- Laws that the proofs of the crates above cite.
 pub mod Legal
-pub mod Keeps
-pub mod Answers
-pub mod Sorted
-pub mod Rejects
-pub mod Samples
-pub mod Bounds

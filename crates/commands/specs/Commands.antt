@@ -4,14 +4,13 @@ use mathlib.Core.Bool.{Bool, true, false}
 use mathlib.Core.List.{List, [], _∷_, _++_}
 use Rattle.codes.specs.Tables.{Entry, _is_, lookup}
 use Rattle.wire.specs.Action.{driveLow, driveHigh, waitMicroseconds, waitMilliseconds, portB, portC, portD}
+use Rattle.registers.specs.declared.Bit.the-variants.{Three, Four, Five}
 use Rattle.registers.specs.declared.PortRegister.the-variants as r
 use Rattle.commands.specs.declared.CommonCommand.the-variants as m
 use Rattle.commands.specs.declared.ExtendedCommand.the-variants as x
 use Rattle.commands.specs.declared.I2cCommand.the-variants as i
 use Rattle.commands.specs.declared.SpiCommand.the-variants as p
 use Rattle.commands.specs.declared.OneWireCommand.the-variants as q
-pub use Rattle.commands.specs.declared.Bit.{Bit}
-pub use Rattle.commands.specs.declared.Bit.the-variants.{Three, Four, Five}
 pub use Rattle.commands.specs.declared.Command.{Command}
 pub use Rattle.commands.specs.declared.Command.the-variants as k
 

@@ -1,9 +1,7 @@
 -- Which commands are legal in a state, and the code that rejects each other one (01). Codes that reject stand here and nowhere else.
 use Prim.Native.Nat.{ℕ}
 use mathlib.Core.Bool.{Bool, true, false, not, cond, _&&_}
-use lib.Dec.{eqb}
 use Rattle.registers.specs.Registers.{i2cSelected, spiSelected, oneWireSelected}
-use Rattle.commands.specs.Decisions.{Decision, Returns, ReturnsAndSends, sends}
 use Rattle.commands.specs.Commands.{Command}
 use Rattle.commands.specs.declared.Command.the-variants as k
 use Rattle.commands.specs.declared.SpiCommand.{SpiCommand}
@@ -47,29 +45,3 @@ abbrev pub legalityOf : ℕ → Bool → Command → Legality
 legalityOf flags configured c =
     cond (not (isSelected flags c)) (Rejected 0x80)
     (cond (needsConfiguration c && not configured) (Rejected 0x40) Legal)
-
--- WHAT A REJECTED COMMAND DECIDES: its code is returned; by 41 "it returns 40, which is sent once, reports or not (H)"
-
-abbrev pub spiReadsConfiguration : SpiCommand → Bool
-spiReadsConfiguration p.LoadConfig = false
-spiReadsConfiguration p.ReadConfig = true
-spiReadsConfiguration p.LoadSize = false
-spiReadsConfiguration p.ReadSize = false
-spiReadsConfiguration (p.LoadPacket exchange) = false
-spiReadsConfiguration p.ReadPacket = false
-spiReadsConfiguration p.StartExchange = false
-spiReadsConfiguration (p.DriveSs verb) = false
-spiReadsConfiguration p.ReadSs = false
-spiReadsConfiguration p.ReadLow = false
-spiReadsConfiguration p.ExchangeAndRead = false
-
-abbrev pub readsConfiguration : Command → Bool
-readsConfiguration (k.Common c) = false
-readsConfiguration (k.Extended c) = false
-readsConfiguration (k.I2c c) = false
-readsConfiguration (k.Spi c) = spiReadsConfiguration c
-readsConfiguration (k.OneWire c) = false
-readsConfiguration k.Unknown = false
-
-abbrev pub rejects : Command → ℕ → Decision
-rejects c code = cond (eqb code 0x40 && readsConfiguration c) (sends (ReturnsAndSends code)) (sends (Returns code))

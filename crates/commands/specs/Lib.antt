@@ -1,15 +1,2 @@
 pub mod Commands
-pub mod Bits
-pub mod Decisions
 pub mod Legality
-pub mod Changes
-pub mod Common
-pub mod Extended
-pub mod I2c
-pub mod Spi
-pub mod OneWire
-pub mod Operands
-pub mod Said
-pub mod Effects
-pub mod Events
-pub mod Promises

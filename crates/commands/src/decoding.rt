@@ -1,13 +1,13 @@
 // Every command that 01 lists, by its byte.
 ghost use mathlib.Core.Path.{_≡_};
 ghost use Rattle.commands.specs.Commands.{commandOf};
-use crate::Bit;
 use crate::Command;
 use crate::CommonCommand;
 use crate::ExtendedCommand;
 use crate::I2cCommand;
 use crate::OneWireCommand;
 use crate::SpiCommand;
+use registers::Bit;
 use registers::PortRegister;
 
 // The level that a pulse begins with.
@@ -21,7 +21,7 @@ const MILLISECONDS: u8 = wire::VERB_WAIT_MILLISECONDS;
 
 // The command of a byte, between commands or after 1D. It is longer than other functions because it is the list itself, a row a
 // command.
-pub(crate) fn command_of(extended: bool, b: u8) -> Command
+pub fn command_of(extended: bool, b: u8) -> Command
     ensures { λ r. ⌜ r ≡ commandOf extended b ⌝ }
 {
     if extended {

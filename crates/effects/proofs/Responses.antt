@@ -5,10 +5,10 @@ use mathlib.Core.Bool.{Bool, cond}
 use mathlib.Core.List.{List, _∷_, map}
 use Rattle.registers.specs.Registers.{reportsOn, withPage, withError}
 use Rattle.registers.specs.declared.State.{State}
-use Rattle.commands.specs.Said.{returned, sent, errorAfter, repliesOf}
-use Rattle.commands.specs.Effects.{withErrorOf}
-use Rattle.commands.proofs.Choices.{chosen}
-use Rattle.commands.proofs.Sent.{error-sent, replies-sent}
+use Rattle.decisions.specs.Said.{returned, sent, errorAfter, repliesOf}
+use Rattle.decisions.specs.Effects.{withErrorOf}
+use Rattle.wire.proofs.Choices.{chosen}
+use Rattle.decisions.proofs.Sent.{error-sent, replies-sent}
 use Rattle.effects.specs.Replies.{response, responseOf}
 
 module _ (s : State) (xs : List ℕ) where

@@ -4,8 +4,8 @@ use Prim.Native.Nat.{ℕ}
 use Rattle.packet.specs.Packet.{lowBytes}
 use Rattle.registers.specs.Registers.{reportsOn, bitsIn}
 use Rattle.registers.specs.declared.State.{State}
-use Rattle.commands.specs.Said.{Said, repliesOf}
-use Rattle.commands.specs.Effects.{withErrorOf}
+use Rattle.decisions.specs.Said.{Said, repliesOf}
+use Rattle.decisions.specs.Effects.{withErrorOf}
 pub use Rattle.effects.specs.declared.Reply.{Reply}
 pub use Rattle.effects.specs.declared.Reply.the-variants as l
 

@@ -3,9 +3,9 @@ use Prim.Native.Nat.{ℕ}
 use mathlib.Core.Path.{_≡_}
 use mathlib.Core.List.{List, [], _∷_}
 use Rattle.registers.specs.declared.State.{State}
-use Rattle.commands.specs.Said.{codesOf}
-use Rattle.commands.specs.Effects.{saidOf}
-use Rattle.commands.specs.declared.Answer.{Answer}
+use Rattle.decisions.specs.Said.{codesOf}
+use Rattle.decisions.specs.Effects.{saidOf}
+use Rattle.decisions.specs.declared.Answer.{Answer}
 pub use Rattle.effects.specs.declared.Returned.{Returned}
 pub use Rattle.effects.specs.declared.Returned.the-variants.{Nothing, One, Two}
 

@@ -3,14 +3,15 @@ ghost use mathlib.Core.Path.{_≡_};
 ghost use Prim.Native.Nat.{_<_};
 ghost use Rattle.packet.specs.Packet.{width};
 ghost use Rattle.registers.specs.Registers.{withPage, ended};
-ghost use Rattle.commands.specs.Changes.{changed};
-use commands::Change;
+ghost use Rattle.decisions.specs.Changes.{changed};
+use decisions::Change;
 use registers::Page;
 use registers::PortRegister;
 use registers::State;
 use registers::Wait;
 use registers::parts::bits_of;
 use registers::parts::high_first;
+use registers::parts::kept_flags;
 use registers::parts::timings_in;
 use registers::parts::with_byte;
 use registers::parts::with_page;
@@ -34,7 +35,7 @@ fn reinit(mut s: State, flags: u8) -> State
 fn reset(mut s: State) -> State
     ensures { λ t. ⌜ t ≡ changed s Change.Reset ⌝ }
 {
-    let kept = s.page.flags / 8 % 4 * 8;
+    let kept = kept_flags(s.page.flags);
     s.page.error = 0;
     s.page.config = 0;
     s.page.configured = false;

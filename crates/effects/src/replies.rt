@@ -3,13 +3,13 @@ ghost use mathlib.Core.Path.{_≡_};
 ghost use mathlib.Core.Bool.{cond};
 ghost use lib.Dec.{eqb};
 ghost use mathlib.Core.List.{[], _∷_, map};
-ghost use Rattle.commands.specs.Said.{returned, sent, returnedAndSent};
-ghost use Rattle.commands.specs.Effects.{saidOf};
+ghost use Rattle.decisions.specs.Said.{returned, sent, returnedAndSent};
+ghost use Rattle.decisions.specs.Effects.{saidOf};
 ghost use Rattle.effects.specs.Replies.{replyBytes, response, responseOf};
 use crate::Reply;
 use crate::Responded;
 use crate::returning::checked;
-use commands::Answer;
+use decisions::Answer;
 use registers::State;
 use registers::parts::reports_on;
 

@@ -4,7 +4,7 @@ ghost use mathlib.Core.Bool.{cond};
 ghost use lib.Dec.{eqb};
 ghost use Rattle.effects.specs.Returning.{ReturnedBy};
 use crate::Returned;
-use commands::Answer;
+use decisions::Answer;
 
 // 00 for a low sample, else a code.
 pub(crate) fn checked(x: u8, code: u8) -> u8

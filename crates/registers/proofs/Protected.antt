@@ -4,7 +4,7 @@ use mathlib.Core.Path.{_≡_, refl, sym, ap, _∙_}
 use native.Mathlib.Omega.{arith}
 use Rattle.registers.specs.Registers.{PortRegister, Ddrb, Portb, Ddrc, Portc, Ddrd, Portd, protected, keepC, keepD}
 use Rattle.registers.specs.Protected.{KeepsProtected, Protected}
-use Rattle.registers.proofs.Bits.{byte-by-bits}
+use Rattle.registers.proofs.SameBits.{byte-by-bits}
 
 keep-c : (old new : ℕ) → KeepsProtected Ddrc old new (keepC old new)
 keep-c old new zero h = omega arith

@@ -34,6 +34,10 @@ reportsOn flags = eqb (flags / 8 % 2) 1
 abbrev pub autoloadOn : ℕ → Bool
 autoloadOn flags = eqb (flags / 16 % 2) 1
 
+-- "clears common flags but bits 3 and 4"
+abbrev pub keptFlags : ℕ → ℕ
+keptFlags flags = flags / 8 % 4 * 8
+
 -- CONFIG_SPI: bit 0 CPHA, 1 CPOL, 2 high bit first
 abbrev pub phaseOf : ℕ → Bool
 phaseOf config = eqb (config % 2) 1

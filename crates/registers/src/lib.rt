@@ -3,6 +3,7 @@ ghost use mathlib.Core.Path.{_≡_};
 ghost use Rattle.registers.specs.Registers.{faultCode, bitsOf};
 ghost use Rattle.registers.specs.Ranges.{operandFits, waitFits, pageFits, stateFits};
 
+pub mod bits;
 pub mod parts;
 pub mod ports;
 
@@ -59,6 +60,13 @@ pub enum PortRegister {
     Portc,
     Ddrd,
     Portd,
+}
+
+// The bits of a register that commands set and clear.
+pub enum Bit {
+    Three,
+    Four,
+    Five,
 }
 
 // The operand that is waited for, by what it goes to. The order here and in `Wait` says nothing; it is the one that compiles best.

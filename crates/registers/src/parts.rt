@@ -1,9 +1,9 @@
 // The parts of the registers by name: the bits of COMMON_FLAGS and CONFIG_SPI, N and its bytes, and a state with one part replaced.
 ghost use mathlib.Core.Path.{_≡_};
-ghost use Prim.Native.Nat.{_<_};
+ghost use Prim.Native.Nat.{_≤_, _<_};
 ghost use Rattle.packet.specs.Packet.{width, packetBytes};
 ghost use Rattle.registers.specs.Ranges.{selectedCount};
-ghost use Rattle.registers.specs.Registers.{i2cSelected, spiSelected, oneWireSelected, reportsOn, autoloadOn, phaseOf, polarityOf, highFirst, bitsOf, withPage, withReceived, holding, heldWith, timingsIn};
+ghost use Rattle.registers.specs.Registers.{i2cSelected, spiSelected, oneWireSelected, reportsOn, autoloadOn, keptFlags, phaseOf, polarityOf, highFirst, bitsOf, withPage, withReceived, holding, heldWith, timingsIn};
 use crate::HELD;
 use crate::Page;
 use crate::State;
@@ -50,6 +50,13 @@ pub fn autoload_on(flags: u8) -> bool
     ensures { λ r. ⌜ r ≡ autoloadOn flags ⌝ }
 {
     flags / 16 % 2 == 1
+}
+
+// What 00 to 03 keep of COMMON_FLAGS: REPORTS_EN and AUTOLOAD_EN. The bound is what keeps a caller's sum with a flag in a byte.
+pub fn kept_flags(flags: u8) -> u8
+    ensures { λ r. ⌜ (r ≡ keptFlags flags) × (r ≤ 24) ⌝ }
+{
+    flags / 8 % 4 * 8
 }
 
 // CPHA of CONFIG_SPI.

@@ -11,7 +11,7 @@ use Rattle.wire.specs.Buffer.{overwrite, Written}
 use Rattle.wire.proofs.Buffers.{overwrite-length, overwrite-append, overwrite-through}
 use Rattle.names.specs.Names.{isExtended}
 use Rattle.grammar.specs.declared.Context.{Context}
-use Rattle.records.proofs.Choices.{by-cond, by-bool}
+use Rattle.wire.proofs.Choices.{by-cond, by-bool}
 use Rattle.text.specs.declared.words.Word.{Word}
 use Rattle.text.specs.Lists.{Reads, listOf}
 use Rattle.text.specs.declared.Stop.{Stop}

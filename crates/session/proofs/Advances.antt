@@ -16,7 +16,7 @@ use Rattle.bridge.specs.declared.Outcome.the-variants.{Taken, Refused}
 use Rattle.refusals.specs.declared.Refusal.{Refusal}
 use Rattle.records.specs.Records.{part}
 use Rattle.records.specs.Contents.{eventOf, eventsOf}
-use Rattle.records.proofs.Choices.{by-bool}
+use Rattle.wire.proofs.Choices.{by-bool}
 use Rattle.session.specs.History.{callOf}
 use Rattle.session.specs.Runs.{Cursor, Ran, mostOutput, lentTo, entered, stopped, Steps, eventStep, firstStep, stepOf, thenSteps, stepsOf, RanSteps, left}
 use Rattle.session.specs.Next.{Next, nextOf, nextStep, firstCall, codesAt, nextCodes, Advanced, Advances}

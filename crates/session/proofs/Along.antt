@@ -20,7 +20,7 @@ use Rattle.records.specs.declared.reading.Record.{Record}
 use Rattle.records.specs.declared.reading.Record.the-variants as r
 use Rattle.records.specs.declared.contents.Content.{Content}
 use Rattle.records.specs.declared.contents.Content.the-variants as k
-use Rattle.records.proofs.Choices.{by-cond, by-bool}
+use Rattle.wire.proofs.Choices.{by-cond, by-bool}
 use Rattle.session.specs.History.{callOf, outputOf, refusalOf}
 use Rattle.session.specs.Runs.{Cursor, mostOutput, lentTo, Steps, finished, stopped, entered, pastEvent, eventStep, firstStep, bodyStep, recordStep, stepOf, stay, thenSteps, stepsOf}
 use Rattle.session.specs.Inner.{Progress, halt, onward, progressOf, Entering}

@@ -13,7 +13,7 @@ use Rattle.records.specs.declared.reading.Record.{Record}
 use Rattle.records.specs.declared.reading.Record.the-variants as r
 use Rattle.records.specs.declared.contents.Content.{Content}
 use Rattle.records.specs.declared.contents.Content.the-variants as k
-use Rattle.records.proofs.Choices.{by-cond, by-bool}
+use Rattle.wire.proofs.Choices.{by-cond, by-bool}
 use Rattle.records.proofs.Bodies.{Within, from-within}
 use Rattle.session.specs.Runs.{Cursor, lentTo, entered, firstStep, bodyStep, recordStep, stepOf}
 use Rattle.session.specs.Next.{Next, nextBody, nextRecord, nextOf, nextStep}

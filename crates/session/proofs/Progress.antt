@@ -15,7 +15,7 @@ use Rattle.bridge.specs.declared.Bridge.{Bridge}
 use Rattle.bridge.specs.declared.Outcome.{Outcome}
 use Rattle.bridge.specs.declared.Outcome.the-variants.{Taken, Refused}
 use Rattle.records.specs.Contents.{eventsOf}
-use Rattle.records.proofs.Choices.{by-bool, by-cond}
+use Rattle.wire.proofs.Choices.{by-bool, by-cond}
 use Rattle.session.specs.History.{callOf, outputOf}
 use Rattle.session.specs.Runs.{mostOutput}
 use Rattle.session.specs.Inner.{bridgeOf, Reach, Progress, halt, onward, progressOf, Reached}

@@ -10,7 +10,7 @@ use lib.Dec.{leb, ltb}
 use lib.ListN.{length, take, length-append}
 use Rattle.wire.proofs.Buffers.{overwrite-through}
 use Rattle.records.specs.Records.{recordFrom}
-use Rattle.records.proofs.Choices.{by-bool}
+use Rattle.wire.proofs.Choices.{by-bool}
 use Rattle.session.specs.History.{historyOf, written, replayOf}
 use Rattle.session.specs.Runs.{Cursor, Ran, mostOutput, begin, Steps, stay, thenSteps, stepOf, stepsOf, finished, allSteps, left, Runs, aheadOf, restOf, Promised, RunStops, Calls, over, call, JoinedChunks}
 use Rattle.session.proofs.Records.{all-records}

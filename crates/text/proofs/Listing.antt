@@ -7,7 +7,7 @@ use borrow.Author.Tests.{eqb-false, le-leb, lt-leb}
 use lib.Dec.{eqb}
 use lib.ListN.{length, replicate, length-replicate}
 use Rattle.wire.specs.Buffer.{Written}
-use Rattle.records.proofs.Choices.{by-cond}
+use Rattle.wire.proofs.Choices.{by-cond}
 use Rattle.text.specs.Words.{Hex, wordAt, textOf, same, hexOf, countOf}
 use Rattle.text.specs.Lists.{Expected, withCount, repeated, started, itemAt, listFor, listOf, Reads}
 use Rattle.text.specs.declared.lists.Item.{Item}

@@ -7,7 +7,7 @@ use native.Mathlib.Omega.{arith}
 use native.Mathlib.Numerals.{add-one}
 use lib.ListN.{length, getD, drop, length-drop, drop-of-length-le}
 use lib.Seq.{drop-cons}
-use Rattle.records.proofs.Choices.{by-cond}
+use Rattle.wire.proofs.Choices.{by-cond}
 use Rattle.text.specs.Words.{isIn, span, past, wordAt}
 use Rattle.text.specs.declared.words.Class.{Class}
 use Rattle.text.specs.declared.words.Class.the-variants as k

@@ -1,6 +1,6 @@
 -- The code is sent in either case.
 use mathlib.Core.Path.{refl}
-use Rattle.commands.specs.Said.{errorAfter, repliesOf}
+use Rattle.decisions.specs.Said.{errorAfter, repliesOf}
 use Rattle.effects.proofs.replies.store_and_send.Statement.{statement}
 use Rattle.effects.proofs.replies.store_and_send.Tie as tie
 

@@ -5,8 +5,8 @@ use mathlib.Core.List.{List, _∷_}
 use Prim.Native.Nat.{ℕ}
 use Rattle.packet.specs.Packet.{lowBytes}
 use Rattle.registers.specs.Registers.{bitsIn}
-use Rattle.commands.specs.Said.{codesOf}
-use Rattle.commands.proofs.Sent.{codes-sent}
+use Rattle.decisions.specs.Said.{codesOf}
+use Rattle.decisions.proofs.Sent.{codes-sent}
 use Rattle.effects.proofs.returning.returned.Statement.{statement}
 use Rattle.effects.proofs.returning.returned.Tie as tie
 

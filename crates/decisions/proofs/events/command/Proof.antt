@@ -1,0 +1,17 @@
+-- The command of the byte, rejected or legal.
+use borrow.Author.Needs.{needs}
+use Rattle.decisions.proofs.events.command.Statement.{statement}
+use Rattle.decisions.proofs.events.command.Tie as tie
+
+pub command-spec : {M : Type 1} → statement M
+command-spec =
+    tie.close
+    (tie.spec
+    (λ c κs. search needs)
+    (λ c κs. search needs)
+    (λ c. search needs)
+    (λ c κs. search needs)
+    (λ c. rw (← c .before .before .before .before .before .command-of .ensures, ← c .before .before .before .before .legality-of .ensures, c .before .before .l .given .1) (c .rejected .ensures))
+    (λ c. search needs)
+    (λ c κs. search needs)
+    (λ c. rw (← c .before .before .before .before .command-of .ensures, ← c .before .before .before .legality-of .ensures, c .before .enum-told .given .1) (c .clause-of .ensures)))

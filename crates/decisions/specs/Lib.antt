@@ -1,0 +1,13 @@
+pub mod Decisions
+pub mod Rejections
+pub mod Changes
+pub mod Common
+pub mod Extended
+pub mod I2c
+pub mod Spi
+pub mod OneWire
+pub mod Operands
+pub mod Said
+pub mod Effects
+pub mod Events
+pub mod Promises
