@@ -3,7 +3,8 @@ ghost use mathlib.Core.Path.{_≡_};
 ghost use mathlib.Core.Bool.{false};
 ghost use Prim.Native.Nat.{_<_, _≤_};
 ghost use lib.ListN.{length};
-ghost use Rattle.session.specs.Runs.{mostOutput, left};
+ghost use Rattle.session.specs.Runs.{left};
+ghost use Rattle.transcript.specs.Transcript.{mostOutput};
 use input::Input;
 use session::replay::Cursor;
 

@@ -17,13 +17,15 @@ use Rattle.refusals.specs.declared.Refusal.{Refusal}
 use Rattle.records.specs.Records.{part}
 use Rattle.records.specs.Contents.{eventOf, eventsOf}
 use Rattle.wire.proofs.Choices.{by-bool}
-use Rattle.session.specs.History.{callOf}
-use Rattle.session.specs.Runs.{Cursor, Ran, mostOutput, lentTo, entered, stopped, Steps, eventStep, firstStep, stepOf, thenSteps, stepsOf, RanSteps, left}
+use Rattle.transcript.specs.Transcript.{callOf, mostOutput}
+use Rattle.session.specs.Runs.{Cursor, Ran, lentTo, entered, stopped, Steps, eventStep, firstStep, stepOf, thenSteps, stepsOf, RanSteps, left}
 use Rattle.session.specs.Next.{Next, nextOf, nextStep, firstCall, codesAt, nextCodes, Advanced, Advances}
 use Rattle.session.specs.declared.next.Next.the-variants as n
-use Rattle.session.specs.Inner.{bridgeOf, Done, EventDone, StepDone}
-use Rattle.session.proofs.CallTests.{call-codeless}
-use Rattle.session.proofs.Parts.{part-first}
+use Rattle.transcript.specs.Events.{bridgeOf, EventDone}
+use Rattle.transcript.specs.declared.events.Done.{Done}
+use Rattle.session.specs.Inner.{StepDone}
+use Rattle.transcript.proofs.CallTests.{call-codeless}
+use Rattle.records.proofs.Parts.{part-first}
 use Rattle.session.proofs.Along.{steps-first, steps-none}
 use Rattle.session.proofs.Promises.{further}
 use Rattle.session.proofs.Going.{going-first, runs-over, runs-full}

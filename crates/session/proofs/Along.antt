@@ -21,12 +21,13 @@ use Rattle.records.specs.declared.reading.Record.the-variants as r
 use Rattle.records.specs.declared.contents.Content.{Content}
 use Rattle.records.specs.declared.contents.Content.the-variants as k
 use Rattle.wire.proofs.Choices.{by-cond, by-bool}
-use Rattle.session.specs.History.{callOf, outputOf, refusalOf}
-use Rattle.session.specs.Runs.{Cursor, mostOutput, lentTo, Steps, finished, stopped, entered, pastEvent, eventStep, firstStep, bodyStep, recordStep, stepOf, stay, thenSteps, stepsOf}
-use Rattle.session.specs.Inner.{Progress, halt, onward, progressOf, Entering}
-use Rattle.session.proofs.CallTests.{not-refused, call-few}
-use Rattle.session.proofs.Parts.{part-none, part-first, no-fault, lent-rest}
-use Rattle.session.proofs.Progress.{progress-step, progress-short}
+use Rattle.transcript.specs.Transcript.{callOf, outputOf, refusalOf, mostOutput}
+use Rattle.session.specs.Runs.{Cursor, lentTo, Steps, finished, stopped, entered, pastEvent, eventStep, firstStep, bodyStep, recordStep, stepOf, stay, thenSteps, stepsOf}
+use Rattle.transcript.specs.Events.{Progress, halt, onward, progressOf}
+use Rattle.session.specs.Inner.{Entering}
+use Rattle.transcript.proofs.CallTests.{not-refused, call-few}
+use Rattle.records.proofs.Parts.{part-none, part-first, no-fault, lent-rest}
+use Rattle.transcript.proofs.Progress.{progress-step, progress-short}
 
 -- STEPS, by their tests
 

@@ -18,7 +18,7 @@ use Rattle.records.proofs.Bodies.{Within, from-within}
 use Rattle.session.specs.Runs.{Cursor, lentTo, entered, firstStep, bodyStep, recordStep, stepOf}
 use Rattle.session.specs.Next.{Next, nextBody, nextRecord, nextOf, nextStep}
 use Rattle.session.specs.declared.next.Next.the-variants as n
-use Rattle.session.proofs.Parts.{part-length, part-none}
+use Rattle.records.proofs.Parts.{part-length, part-none}
 
 module _ (s : List ℕ) where
   body-next : (c : Cursor) (start end : ℕ) (x : Content) → bodyStep s c start end x ≡ nextStep s c (nextBody (c .at) start end x)

@@ -12,7 +12,8 @@ use Rattle.wire.proofs.Buffers.{overwrite-through}
 use Rattle.records.specs.Records.{recordFrom}
 use Rattle.wire.proofs.Choices.{by-bool}
 use Rattle.session.specs.History.{historyOf, written, replayOf}
-use Rattle.session.specs.Runs.{Cursor, Ran, mostOutput, begin, Steps, stay, thenSteps, stepOf, stepsOf, finished, allSteps, left, Runs, aheadOf, restOf, Promised, RunStops, Calls, over, call, JoinedChunks}
+use Rattle.transcript.specs.Transcript.{mostOutput}
+use Rattle.session.specs.Runs.{Cursor, Ran, begin, Steps, stay, thenSteps, stepOf, stepsOf, finished, allSteps, left, Runs, aheadOf, restOf, Promised, RunStops, Calls, over, call, JoinedChunks}
 use Rattle.session.proofs.Records.{all-records}
 use Rattle.session.proofs.Rest.{left-live, left-done, rest-done, rest-step, falls}
 use Rattle.session.proofs.Along.{steps-over, steps-short, steps-none, steps-first, one-step, too-long}

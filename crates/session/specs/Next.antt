@@ -15,8 +15,8 @@ use Rattle.records.specs.declared.reading.Record.the-variants as r
 use Rattle.records.specs.declared.contents.Content.{Content}
 use Rattle.records.specs.declared.contents.Content.the-variants as k
 use Rattle.records.specs.Contents.{contentOf, eventOf, eventsOf}
-use Rattle.session.specs.History.{callOf, lastOf}
-use Rattle.session.specs.Runs.{Cursor, mostOutput, lentTo, finished, entered, replaced, Steps, oneStep, stopped, firstStep, Runs}
+use Rattle.transcript.specs.Transcript.{callOf, lastOf, mostOutput}
+use Rattle.session.specs.Runs.{Cursor, lentTo, finished, entered, replaced, Steps, oneStep, stopped, firstStep, Runs}
 pub use Rattle.session.specs.declared.next.Next.{Next}
 pub use Rattle.session.specs.declared.next.Next.the-variants as n
 pub use Rattle.session.specs.declared.replay.Advanced.{Advanced}

@@ -2,10 +2,10 @@
 ghost use mathlib.Core.Path.{_≡_};
 ghost use Prim.Native.Nat.{_+_, _^_, _≤_, _<_};
 ghost use lib.ListN.{length};
-ghost use Rattle.session.specs.Runs.{mostOutput, entered, eventStep, stepOf};
+ghost use Rattle.transcript.specs.Transcript.{mostOutput};
+ghost use Rattle.session.specs.Runs.{entered, eventStep, stepOf};
 ghost use Rattle.session.specs.Next.{firstCall, codesAt, nextOf};
 ghost use Rattle.session.specs.Inner.{StepDone};
-use crate::events::take_event;
 use crate::next::Next;
 use crate::next::next_at;
 use crate::replay::Advanced;
@@ -21,6 +21,7 @@ use bridge::Outcome;
 use effects::Returned;
 use records::contents::event_of;
 use refusals::Refusal;
+use transcript::events::take_event;
 
 // A step that no event's codes come with.
 fn codeless(ran: Ran) -> Advanced

@@ -5,11 +5,9 @@ ghost use Prim.Native.Nat.{_≤_, _<_};
 ghost use lib.ListN.{length};
 ghost use Rattle.records.specs.Records.{part};
 ghost use Rattle.records.specs.Contents.{contentOf};
-ghost use Rattle.session.specs.History.{lastOf};
-ghost use Rattle.session.specs.Runs.{mostOutput, finished, oneStep, stopped, bodyStep, stepOf, RanSteps};
+ghost use Rattle.transcript.specs.Transcript.{lastOf, mostOutput};
+ghost use Rattle.session.specs.Runs.{finished, oneStep, stopped, bodyStep, stepOf, RanSteps};
 ghost use Rattle.session.specs.Inner.{Goes, CanStep, Entering};
-use crate::events;
-use crate::output;
 use crate::replay::Cursor;
 use crate::replay::MOST_SESSION;
 use crate::replay::Ran;
@@ -23,6 +21,8 @@ use records::contents::content_of;
 use records::reading::Record;
 use records::reading::record_from;
 use refusals::Refusal;
+use transcript::events;
+use transcript::output;
 
 // The run ends here with a refusal and its place. The caller shows room for its record.
 pub(crate) fn stop(why: Refusal, place: usize, out: &mut [u8]) -> Ran

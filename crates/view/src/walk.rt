@@ -3,7 +3,8 @@ ghost use mathlib.Core.Path.{_≡_};
 ghost use mathlib.Core.Bool.{false};
 ghost use Prim.Native.Nat.{_<_, _≤_};
 ghost use lib.ListN.{length};
-ghost use Rattle.session.specs.Runs.{mostOutput, left};
+ghost use Rattle.session.specs.Runs.{left};
+ghost use Rattle.transcript.specs.Transcript.{mostOutput};
 use crate::commands::say_wait;
 use crate::events::codes_of;
 use crate::events::say_head;
@@ -28,8 +29,8 @@ use registers::Wait;
 use session::next::Next;
 use session::next::next_at;
 use session::replay::Cursor;
-use session::replay::MOST_OUTPUT;
 use std::num::wrapping_add_usize;
+use transcript::MOST_OUTPUT;
 
 // How much has been shown.
 struct Shown {

@@ -2,7 +2,7 @@
 use borrow.Author.Needs.{needs}
 use mathlib.Core.Path.{refl, sym, _∙_}
 use native.Mathlib.Omega.{arith}
-use Rattle.session.proofs.Parts.{samples-fit}
+use Rattle.records.proofs.Parts.{samples-fit}
 use Rattle.session.proofs.Playing.{ran-none}
 use Rattle.session.proofs.NextSteps.{event-lies, event-some}
 use Rattle.session.proofs.Advances.{without-event, with-event}

@@ -8,7 +8,7 @@ use Rattle.refusals.specs.declared.Refusal.the-variants.{Ranges}
 use Rattle.records.specs.Contents.{eventOf}
 use Rattle.bridge.specs.Answering.{Given}
 use lib.ListN.{getD}
-use Rattle.session.proofs.CallTests.{call-ranges}
+use Rattle.transcript.proofs.CallTests.{call-ranges}
 use Rattle.session.proofs.Advances.{first-refused, first-stops, first-accepted}
 use Rattle.session.proofs.advancing.take_first.Statement.{statement}
 use Rattle.session.proofs.advancing.take_first.Tie as tie

@@ -3,7 +3,8 @@ use borrow.Author.Needs.{needs}
 use borrow.Author.Tests.{not-true}
 use mathlib.Core.Path.{_≡_}
 use lib.ListN.{length}
-use Rattle.session.specs.Runs.{mostOutput, left}
+use Rattle.session.specs.Runs.{left}
+use Rattle.transcript.specs.Transcript.{mostOutput}
 use Rattle.view.proofs.walk.show.Statement.{statement}
 use Rattle.view.proofs.walk.show.Tie as tie
 

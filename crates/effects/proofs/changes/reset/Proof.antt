@@ -1,0 +1,12 @@
+-- The flags kept are those of the definition.
+use borrow.Author.Needs.{needs}
+use Rattle.effects.proofs.changes.reset.Statement.{statement}
+use Rattle.effects.proofs.changes.reset.Tie as tie
+
+pub reset-spec : {M : Type 1} → statement M
+reset-spec =
+    tie.close
+    (tie.spec
+    (λ c κs. search needs)
+    (λ c κs. search needs)
+    (λ c. rw (← c .before .before .before .before .before .kept-flags .ensures .0) (c .reinit .ensures)))
