@@ -1,19 +1,18 @@
 // An event's block: what came, what the bridge did and replied, and what it then waits for.
-use crate::commands::say_byte;
-use crate::commands::say_wait;
-use crate::replies::codes_sent;
-use crate::replies::say_error;
-use crate::text::bold;
-use crate::text::no_color;
-use crate::text::say;
-use crate::text::say_hex;
-use crate::text::say_number;
 use effects::Returned;
 use registers::Event;
 use registers::Fault;
 use registers::State;
 use registers::Wait;
 use registers::parts::reports_on;
+use wording::commands::say_byte;
+use wording::commands::say_wait;
+use wording::replies::say_error;
+use wording::text::bold;
+use wording::text::no_color;
+use wording::text::say;
+use wording::text::say_hex;
+use wording::text::say_number;
 
 // The command that sends ERROR.
 const READ_ERROR: u8 = 0x04;
@@ -47,6 +46,22 @@ pub(crate) fn say_head(color: bool, place: usize, s: State, e: Event) {
     say(b": ");
     say_event(s, e);
     no_color(color);
+}
+
+// How many of an event's replies, from the first on, are codes: those that it returned, with reports on. 41 sends the code 40 with
+// reports off too.
+pub fn codes_sent(returned: Returned, reports: bool) -> usize {
+    match returned {
+        Returned::Nothing => 0,
+        Returned::One(code) => {
+            if reports | (code == codes::NO_CONFIGURATION) {
+                1
+            } else {
+                0
+            }
+        }
+        Returned::Two(_, _) => { if reports { 2 } else { 0 } }
+    }
 }
 
 // Whether an event is 04, which sends ERROR.

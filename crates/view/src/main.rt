@@ -1,12 +1,8 @@
 // Shows the session of standard input, or of a named file, in words: a block for each event, and a summary.
-mod actions;
-mod commands;
 mod events;
 mod numbers;
 mod output;
 mod refused;
-mod replies;
-mod text;
 mod walk;
 
 use input::Input;

@@ -1,10 +1,10 @@
 // What a step of the replay wrote: at most a record of actions and one of replies, or a refusal.
-use crate::actions::say_actions;
 use crate::refused::Refused;
 use crate::refused::read_refusal;
-use crate::replies::say_replies;
 use records::reading::Record;
 use records::reading::record_at;
+use wording::actions::say_actions;
+use wording::replies::say_replies;
 
 // The kinds of the records.
 pub(crate) const REPLIES: usize = 0x0101;

@@ -1,11 +1,11 @@
 // A refusal by its number, in words, with its place.
 use crate::numbers::word;
-use crate::text::no_color;
-use crate::text::red;
-use crate::text::say;
-use crate::text::say_number;
-use crate::text::say_words;
 use records::reading::HEADER;
+use wording::text::no_color;
+use wording::text::red;
+use wording::text::say;
+use wording::text::say_number;
+use wording::text::say_words;
 
 // A refusal that the replay wrote; the number 0 says that it wrote none.
 pub(crate) struct Refused {

@@ -5,7 +5,6 @@ ghost use Prim.Native.Nat.{_<_, _≤_};
 ghost use lib.ListN.{length};
 ghost use Rattle.session.specs.Runs.{left};
 ghost use Rattle.transcript.specs.Transcript.{mostOutput};
-use crate::commands::say_wait;
 use crate::events::codes_of;
 use crate::events::say_head;
 use crate::events::say_left;
@@ -17,9 +16,6 @@ use crate::output::say_part;
 use crate::refused::Refused;
 use crate::refused::say_number_and_place;
 use crate::refused::say_refusal;
-use crate::text::finish;
-use crate::text::say;
-use crate::text::say_count;
 use effects::Returned;
 use records::contents::event_of;
 use refusals::Refusal;
@@ -31,6 +27,10 @@ use session::next::next_at;
 use session::replay::Cursor;
 use std::num::wrapping_add_usize;
 use transcript::MOST_OUTPUT;
+use wording::commands::say_wait;
+use wording::text::finish;
+use wording::text::say;
+use wording::text::say_count;
 
 // How much has been shown.
 struct Shown {

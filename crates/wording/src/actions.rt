@@ -1,8 +1,8 @@
 // The actions of an event in words.
-use crate::numbers::word;
 use crate::text::say;
 use crate::text::say_hex;
 use crate::text::say_number;
+use records::reading::joined;
 use std::num::wrapping_add_usize;
 
 // How many actions stand in a line: a 1-Wire slot, or all ports anew.
@@ -97,14 +97,14 @@ fn sample_after(verb: u8, at: usize) -> usize {
 }
 
 // The actions of an event, whose samples stand in the session from a place on.
-pub(crate) fn say_actions(actions: &[u8], session: &[u8], sampled: usize) {
+pub fn say_actions(actions: &[u8], session: &[u8], sampled: usize) {
     let n = actions.len() / wire::ACTION_BYTES;
     let mut at = sampled;
     let mut i: usize = 0;
     while i < n {
         let k = i * wire::ACTION_BYTES;
         let verb = actions[k];
-        let value = word(actions, k + 2);
+        let value = joined(actions[k + 2], actions[k + 3]);
         say_gap(i);
         say_action(verb, actions[k + 1], value, wire::byte_at(session, at));
         at = sample_after(verb, at);

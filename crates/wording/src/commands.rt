@@ -69,7 +69,7 @@ fn say_command(row: usize, flags: u8) {
 }
 
 // What a byte is to a bridge that waits for this.
-pub(crate) fn say_byte(w: Wait, byte: u8, flags: u8) {
+pub fn say_byte(w: Wait, byte: u8, flags: u8) {
     match w {
         Wait::Nothing => say_command(names::find(byte, false), flags),
         Wait::One(o) => say_operand(o),
@@ -91,7 +91,7 @@ fn say_packet(left: u8, exchange: bool) {
 }
 
 // What is waited for, `idle` if nothing.
-pub(crate) fn say_wait(w: Wait) {
+pub fn say_wait(w: Wait) {
     match w {
         Wait::Nothing => say(b"idle"),
         Wait::One(o) => {

@@ -5,7 +5,6 @@ use crate::text::red;
 use crate::text::say;
 use crate::text::say_hex;
 use crate::text::say_words;
-use effects::Returned;
 
 // A device code in words, if it is one.
 fn say_meaning(code: u8) {
@@ -18,22 +17,6 @@ fn say_meaning(code: u8) {
     say(b")");
 }
 
-// How many of an event's replies, from the first on, are codes: those that it returned, with reports on. 41 sends the code 40 with
-// reports off too.
-pub(crate) fn codes_sent(returned: Returned, reports: bool) -> usize {
-    match returned {
-        Returned::Nothing => 0,
-        Returned::One(code) => {
-            if reports | (code == codes::NO_CONFIGURATION) {
-                1
-            } else {
-                0
-            }
-        }
-        Returned::Two(_, _) => { if reports { 2 } else { 0 } }
-    }
-}
-
 fn say_reply(byte: u8, is_code: bool) {
     say(b" ");
     say_hex(byte);
@@ -43,7 +26,7 @@ fn say_reply(byte: u8, is_code: bool) {
 }
 
 // The reply bytes of an event, so many of which, from the first on, are codes.
-pub(crate) fn say_replies(color: bool, replies: &[u8], codes: usize) {
+pub fn say_replies(color: bool, replies: &[u8], codes: usize) {
     say(b"\n    ");
     green(color);
     say(b"reply");
@@ -56,7 +39,7 @@ pub(crate) fn say_replies(color: bool, replies: &[u8], codes: usize) {
 }
 
 // ERROR as an event leaves it, unless it tells of nothing.
-pub(crate) fn say_error(color: bool, error: u8) {
+pub fn say_error(color: bool, error: u8) {
     if error == 0 {
         return;
     }

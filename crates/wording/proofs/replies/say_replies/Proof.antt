@@ -2,8 +2,8 @@
 use borrow.Author.Needs.{needs}
 use Prim.Native.Nat.{_-_, _≤_}
 use lib.ListN.{length}
-use Rattle.view.proofs.replies.say_replies.Statement.{statement}
-use Rattle.view.proofs.replies.say_replies.Tie as tie
+use Rattle.wording.proofs.replies.say_replies.Statement.{statement}
+use Rattle.wording.proofs.replies.say_replies.Tie as tie
 
 abbrev Inv-loop : tie.InvT-loop
 Inv-loop color replies codes i₀ i = i ≤ length replies

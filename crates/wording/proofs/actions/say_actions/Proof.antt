@@ -3,8 +3,8 @@ use borrow.Author.Needs.{needs}
 use Prim.Native.Nat.{_-_, _/_}
 use mathlib.Core.Path.{_≡_}
 use lib.ListN.{length}
-use Rattle.view.proofs.actions.say_actions.Statement.{statement}
-use Rattle.view.proofs.actions.say_actions.Tie as tie
+use Rattle.wording.proofs.actions.say_actions.Statement.{statement}
+use Rattle.wording.proofs.actions.say_actions.Tie as tie
 
 abbrev Inv-loop : tie.InvT-loop
 Inv-loop actions session sampled n at₀ i₀ at i = n ≡ length actions / 4
@@ -18,6 +18,9 @@ say-actions-spec =
     (tie.spec
     Inv-loop
     μ-loop
+    (λ c. search needs)
+    (λ c. search needs)
+    (λ c. search needs)
     (λ c. search needs)
     (λ c. search needs)
     (λ c. search needs)
