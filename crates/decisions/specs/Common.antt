@@ -18,7 +18,7 @@ use Rattle.commands.specs.declared.CommonCommand.the-variants as k
 
 -- "01, 02, 03 clear the same common flags, set their own; reinit, then CS (01) or SS (02) high; 00"
 abbrev pub selects : ℕ → ℕ → Waveform → Decision
-selects flags flag wave = decision (c.Select (keptFlags flags + flag)) wave (Returns 0x00)
+selects kept flag wave = decision (c.Select (kept + flag)) wave (Returns 0x00)
 
 -- "07/08 set/clear reports, 09/0A autoload; each returns 00"
 abbrev pub flagged : ℕ → Bit → Bool → Decision
@@ -26,9 +26,9 @@ flagged flags b on = decision (c.Flags (withBit b on flags)) w.Still (Returns 0x
 
 abbrev pub commonClause : State → CommonCommand → Decision
 commonClause s k.ResetDevice = decision c.Reset w.Reinit (Returns 0x00)
-commonClause s k.SelectI2c = selects (s .page .flags) 1 (w.ReinitHigh cs)
-commonClause s k.SelectSpi = selects (s .page .flags) 2 (w.ReinitHigh ss)
-commonClause s k.SelectOneWire = selects (s .page .flags) 4 w.Reinit
+commonClause s k.SelectI2c = selects (keptFlags (s .page .flags)) 1 (w.ReinitHigh cs)
+commonClause s k.SelectSpi = selects (keptFlags (s .page .flags)) 2 (w.ReinitHigh ss)
+commonClause s k.SelectOneWire = selects (keptFlags (s .page .flags)) 4 w.Reinit
 -- "04 sends ERROR, then zeroes it"
 commonClause s k.ReadError = decision c.ClearError w.Still (Sends (s .page .error))
 commonClause s k.SaveToEprom = decision c.Save w.Still (Returns 0x00)

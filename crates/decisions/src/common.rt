@@ -1,6 +1,6 @@
 // The clauses of the common commands.
 ghost use mathlib.Core.Path.{_≡_};
-ghost use Prim.Native.Nat.{_<_};
+ghost use Prim.Native.Nat.{_≤_, _<_};
 ghost use Rattle.decisions.specs.Common.{selects, flagged, commonClause};
 use crate::Answer;
 use crate::Change;
@@ -17,12 +17,12 @@ use registers::bits::with_bit;
 use registers::parts::kept_flags;
 use signals::Waveform;
 
-// 01, 02, 03: an interface selected by its flag. The caller shows that the flag is one of bits 0 to 2.
-fn select(flags: u8, flag: u8, wave: Waveform) -> Decision
-    requires { ⌜ flag < 8 ⌝ }
-    ensures { λ r. ⌜ r ≡ selects flags flag wave ⌝ }
+// 01, 02, 03: an interface selected by its flag, beside the flags that are kept. The caller shows that the sum is a byte.
+fn select(kept: u8, flag: u8, wave: Waveform) -> Decision
+    requires { ⌜ (kept ≤ 24) × (flag < 8) ⌝ }
+    ensures { λ r. ⌜ r ≡ selects kept flag wave ⌝ }
 {
-    let f = kept_flags(flags) + flag;
+    let f = kept + flag;
     deciding(Change::Select(f), wave, Answer::Returns(codes::NO_ERROR))
 }
 
@@ -60,15 +60,16 @@ pub(crate) fn clause(s: State, c: CommonCommand) -> Decision
     ensures { λ r. ⌜ r ≡ commonClause s c ⌝ }
 {
     let f = s.page.flags;
+    let kept = kept_flags(f);
     match c {
         CommonCommand::ResetDevice => deciding(
             Change::Reset,
             Waveform::Reinit,
             Answer::Returns(codes::NO_ERROR),
         ),
-        CommonCommand::SelectI2c => select(f, 1, Waveform::ReinitHigh(wire::LINE_CS)),
-        CommonCommand::SelectSpi => select(f, 2, Waveform::ReinitHigh(wire::LINE_SS)),
-        CommonCommand::SelectOneWire => select(f, 4, Waveform::Reinit),
+        CommonCommand::SelectI2c => select(kept, 1, Waveform::ReinitHigh(wire::LINE_CS)),
+        CommonCommand::SelectSpi => select(kept, 2, Waveform::ReinitHigh(wire::LINE_SS)),
+        CommonCommand::SelectOneWire => select(kept, 4, Waveform::Reinit),
         CommonCommand::ReadError => deciding(
             Change::ClearError,
             Waveform::Still,

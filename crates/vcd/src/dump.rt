@@ -1,8 +1,10 @@
 // What a dump shows: nine lines and the direction and latch registers of three ports, and when they change.
+use crate::text::put;
 use crate::text::put_bits;
 use crate::text::put_level;
 use crate::text::put_register;
 use crate::text::put_time;
+use vcd_texts::header::write_header;
 
 // How many lines there are; the variables after them are registers.
 pub(crate) const LINES: usize = 9;
@@ -59,7 +61,7 @@ fn all(line: u8, register: u8) -> [u8; VARIABLES] {
 
 // The start of a dump: the time 0 is written, and no variable, which `x` says, and FF of a register, since it differs in every bit.
 // With pull-ups a free line is high, SCK as its clock begins, and registers are written bit by bit.
-pub(crate) fn start(pull_up: bool, clock: u8) -> Dump {
+fn start(pull_up: bool, clock: u8) -> Dump {
     let free = if pull_up { b'1' } else { b'z' };
     let d = Dump {
         bit_by_bit: pull_up,
@@ -75,6 +77,14 @@ pub(crate) fn start(pull_up: bool, clock: u8) -> Dump {
         broken: false,
     };
     d.set(SCK, clock)
+}
+
+// The dump up to the first values.
+pub(crate) fn begin(pull_up: bool, clock: u8, text: &mut [u8]) -> Dump {
+    write_header(pull_up);
+    let mut d = start(pull_up, clock).changes(text);
+    d.used = put(text, d.used, b"$end\n");
+    d
 }
 
 impl Dump {

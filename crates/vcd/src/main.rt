@@ -2,8 +2,6 @@
 // and the ports' registers.
 mod actions;
 mod dump;
-mod header;
-mod refusal;
 mod step;
 mod text;
 mod waveform;
@@ -37,7 +35,7 @@ fn send(mut d: Dump, text: &[u8]) -> Dump {
 // The session ends here with a refusal, which stands in the dump after all else.
 fn refuse(d: Dump, body: &[u8], text: &mut [u8]) -> Dump {
     let e = send(d.stamp(text), text);
-    refusal::say_refusal(body);
+    vcd_texts::refusal::say_refusal(body);
     e
 }
 
@@ -86,7 +84,7 @@ fn write_dump(session: &[u8], pull_up: bool) {
     let mut text = io::large_buffer();
     let mut records = io::buffer();
     let clock = clock_at_start(session, pull_up);
-    let mut d = header::begin(pull_up, clock, &mut text);
+    let mut d = dump::begin(pull_up, clock, &mut text);
     let mut cursor = session::replay::start();
     while !cursor.done {
         let from = d.at_sample(cursor.sample);

@@ -7,6 +7,7 @@ pub clause-spec : {M : Type 1} → statement M
 clause-spec =
     tie.close
     (tie.spec
+    (λ c κs. search needs)
     (λ c. search needs)
     (λ c κs. search needs)
     (λ c. search needs)
@@ -43,9 +44,9 @@ clause-spec =
     (λ c. search needs)
     (λ c κs. search needs)
     (λ c. rw (c .before .enum-told .given .1) (c .deciding .ensures))
-    (λ c. rw (c .before .enum-told2 .given .1) (c .select .ensures))
-    (λ c. rw (c .before .enum-told3 .given .1) (c .select2 .ensures))
-    (λ c. rw (c .before .enum-told4 .given .1) (c .select3 .ensures))
+    (λ c. rw (c .before .enum-told2 .given .1, ← c .before .before .before .kept-flags .ensures .0) (c .select .ensures))
+    (λ c. rw (c .before .enum-told3 .given .1, ← c .before .before .before .kept-flags .ensures .0) (c .select2 .ensures))
+    (λ c. rw (c .before .enum-told4 .given .1, ← c .before .before .before .kept-flags .ensures .0) (c .select3 .ensures))
     (λ c. rw (c .before .enum-told5 .given .1) (c .deciding2 .ensures))
     (λ c. rw (c .before .enum-told6 .given .1) (c .deciding3 .ensures))
     (λ c. rw (c .before .enum-told7 .given .1) (c .sending .ensures))

@@ -14,7 +14,7 @@ fn write_refusal(fd: i32, number: u8, place: u64) {
 }
 
 // Says how a session ended, by the body of the record that says so, as a comment of the dump and on standard error.
-pub(crate) fn say_refusal(body: &[u8]) {
+pub fn say_refusal(body: &[u8]) {
     let number = wire::byte_at(body, 0);
     let low = joined(wire::byte_at(body, 2), wire::byte_at(body, 3));
     let high = joined(wire::byte_at(body, 4), wire::byte_at(body, 5));

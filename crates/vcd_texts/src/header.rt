@@ -1,7 +1,4 @@
-// The head of a dump: its unit of time, how it is to be read, and its variables.
-use crate::dump;
-use crate::dump::Dump;
-use crate::text::put;
+// The header: its unit of time, how it is to be read, and its variables.
 use libc::STDOUT_FILENO;
 
 fn write_comment(pull_up: bool) {
@@ -78,7 +75,7 @@ fn write_register_bits() {
 
 // Everything before the first values. With pull-ups the registers are written bit by bit, since some readers take no value of more
 // than one bit.
-fn write_header(pull_up: bool) {
+pub fn write_header(pull_up: bool) {
     write_comment(pull_up);
     io::write_all(STDOUT_FILENO, b"$scope module bridge $end\n");
     write_lines();
@@ -91,12 +88,4 @@ fn write_header(pull_up: bool) {
         STDOUT_FILENO,
         b"$upscope $end\n$enddefinitions $end\n#0\n$dumpvars\n",
     );
-}
-
-// The dump up to the first values.
-pub(crate) fn begin(pull_up: bool, clock: u8, text: &mut [u8]) -> Dump {
-    write_header(pull_up);
-    let mut d = dump::start(pull_up, clock).changes(text);
-    d.used = put(text, d.used, b"$end\n");
-    d
 }

@@ -1,8 +1,8 @@
 -- The bits left fall.
 use borrow.Author.Needs.{needs}
 use Prim.Native.Nat.{_-_}
-use Rattle.vcd.proofs.header.write_bits.Statement.{statement}
-use Rattle.vcd.proofs.header.write_bits.Tie as tie
+use Rattle.vcd_texts.proofs.header.write_bits.Statement.{statement}
+use Rattle.vcd_texts.proofs.header.write_bits.Tie as tie
 
 abbrev Inv-loop : tie.InvT-loop
 Inv-loop name identifier number₀ t4 t5 number = Unit {0}
