@@ -40,7 +40,8 @@ use Rattle.commands.specs.declared.OneWireCommand.the-variants as w
 use Rattle.bridge.specs.Views.{interfaceOf, contextOf}
 use Rattle.bridge.proofs.Flags.{same-interface, one-selected}
 use Rattle.bridge.proofs.Openings.{row, commonOpening, i2cOpening, spiOpening, oneWireOpening, commandOpening, isBetween}
-use Rattle.bridge.proofs.Decisions.{going-on, Opens, Goes, legal-row, rejected-row, selected-matches, configured-matches}
+use Rattle.grammar.proofs.Scans.{going-on}
+use Rattle.bridge.proofs.Decisions.{Opens, Goes, legal-row, rejected-row, selected-matches, configured-matches}
 
 module _ (page : Page) (shared : Shared) (held : List ℕ) (b : ℕ) where
   abbrev s : State
@@ -95,7 +96,7 @@ module _ (page : Page) (shared : Shared) (held : List ℕ) (b : ℕ) where
     configured-row c n = legal-row s b (k.Spi c) Configured (rw n (configured-matches (page .configured) (one-selected (page .flags) one .spi)))
 
     packet-view : record { context = contextOf s; place = Inside Keep (packetBytes (bitsIn page) - 1) } ≡ going Keep (packetBytes (bitsIn page)) b (contextOf s)
-    packet-view = going-on Keep (packetBytes (bitsIn page)) b (contextOf s) (omega arith)
+    packet-view = going-on Keep (packetBytes (bitsIn page)) b (contextOf s) (λ z. omega arith)
 
     spi-agrees : (c : SpiCommand) → Opens s b (spiOpening b c) (commandDecision s (k.Spi c))
     spi-agrees p.LoadConfig = spi-row p.LoadConfig refl One Configure (refl, refl)

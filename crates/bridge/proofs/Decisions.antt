@@ -1,24 +1,17 @@
 -- What a decision must be to agree with the scanner, whatever the samples; and so for each kind of row. Assumes nothing.
-use Prim.Native.Nat.{ℕ, zero, suc, _-_, _≤_}
-use mathlib.Core.Path.{_≡_, refl, ap, sym, subst}
+use Prim.Native.Nat.{ℕ}
+use mathlib.Core.Path.{_≡_, refl, sym, subst}
 use mathlib.Core.Bool.{Bool, true, false, not, cond, _&&_}
 use mathlib.Core.List.{List, [], _∷_}
-use native.Mathlib.Omega.{arith}
 use lib.Dec.{eqb}
 use Rattle.codes.proofs.Lookup.{either}
-use Rattle.grammar.specs.Grammar.{Needs, Selected, Configured, Operands, selected, legal, count}
+use Rattle.grammar.specs.Grammar.{Needs, Operands, legal, count}
 use Rattle.grammar.specs.Scanner.{Opening, codeFor, going, opened}
-use Rattle.grammar.specs.declared.Interface.{Interface}
-use Rattle.grammar.specs.declared.Interface.the-variants.{SPI}
-use Rattle.grammar.specs.declared.Context.{Context}
 use Rattle.grammar.specs.declared.ContextChange.{ContextChange}
-use Rattle.grammar.specs.declared.Place.the-variants.{Inside}
 use Rattle.grammar.specs.declared.Scanned.{Scanned}
 use Rattle.grammar.specs.declared.Scanned.the-variants as g
 use Rattle.grammar.proofs.Follows.{Agree}
-use Rattle.registers.specs.Registers.{withReceived}
 use Rattle.registers.specs.declared.State.{State}
-use Rattle.signals.specs.Waveforms.{waveOf}
 use Rattle.decisions.specs.Said.{codesOf}
 use Rattle.commands.specs.declared.Command.{Command}
 use Rattle.decisions.specs.Decisions.{returns, sends}
@@ -46,11 +39,6 @@ pub carried-agrees : (s : State) (t : Scanned) (d : Decision) (ss : List ℕ) (m
 unfolding effectFrom
 carried-agrees s (g.Accepted v) d ss m h = (accepting-said _ _ (d .answer) (h .0), h .1)
 carried-agrees s (g.Rejected w) d ss m h = (h .0 _ _, h .1)
-
--- so many bytes are to come, and at least one
-pub going-on : (e : ContextChange) (n b : ℕ) (c : Context) → 1 ≤ n → record { context = c; place = Inside e (n - 1) } ≡ going e n b c
-going-on e zero b c h = absurd (omega arith)
-going-on e (suc n) b c h = let q : suc n - 1 ≡ n = omega arith in ap (λ (m : ℕ). record { context = c; place = Inside e m }) q
 
 module _ (s : State) where
   returns-code : (w : ℕ) → DecisionAgrees s (g.Rejected w) (returns w)

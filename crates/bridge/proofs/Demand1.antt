@@ -7,7 +7,7 @@ use Rattle.refusals.specs.declared.Refusal.{Refusal}
 use Rattle.refusals.specs.declared.Refusal.the-variants.{Ranges}
 use Rattle.bridge.specs.Answering.{Bridge, Outcome, Taken, Refused, Lent, Given, refused, answerOf}
 use Rattle.bridge.specs.Demands.{Applies, Lowest, Demand1, isRefused}
-use Rattle.bridge.proofs.Ways.{Went, refused-for, was-accepted, lowest-one, went}
+use Rattle.bridge.proofs.StepOutcomes.{Went, refused-for, was-accepted, lowest-one, went}
 
 -- why, if it was refused
 reason : Outcome → Refusal

@@ -20,7 +20,7 @@ use Rattle.decisions.proofs.Samples.{event-takes, event-same}
 use Rattle.refusals.specs.declared.Refusal.the-variants.{Ranges, Actions, Replies}
 use Rattle.bridge.specs.Answering.{Bridge, Taken, Lent, Given, effect, accepted, answerOf}
 use Rattle.bridge.specs.Demands.{filled, OnlyErrorChanged, Demand2, SameSamples}
-use Rattle.bridge.proofs.Ways.{room, Went, refused-for, was-accepted, went}
+use Rattle.bridge.proofs.StepOutcomes.{room, Went, refused-for, was-accepted, went}
 use Rattle.bridge.proofs.Demand1.{not-taken, demand-1}
 
 module _ (b : Bridge) (e : Event) (l : Lent) where

@@ -19,7 +19,7 @@ use Rattle.bridge.specs.Answering.{Bridge, Lent, Given, effect, accepted
 use Rattle.bridge.specs.Demands.{isRefused, machine, Demand3, ContextFollowed}
 use Rattle.bridge.proofs.View.{placeOf, viewOf}
 use Rattle.bridge.proofs.Agrees.{byte-agrees}
-use Rattle.bridge.proofs.Ways.{Went, refused-for, was-accepted, went}
+use Rattle.bridge.proofs.StepOutcomes.{Went, refused-for, was-accepted, went}
 
 abbrev view : Bridge → Scanner
 view b = viewOf (b .state)

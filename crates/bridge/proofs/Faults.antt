@@ -7,7 +7,7 @@ use Rattle.decisions.specs.Effects.{effectFrom}
 use Rattle.bridge.specs.Answering.{Bridge, Lent, Given, answerOf}
 use Rattle.bridge.specs.Views.{contextOf}
 use Rattle.bridge.specs.Faults.{FaultKeeps}
-use Rattle.bridge.proofs.Ways.{Went, refused-for, was-accepted, went}
+use Rattle.bridge.proofs.StepOutcomes.{Went, refused-for, was-accepted, went}
 
 pub fault-keeps : (b : Bridge) (f : Fault) (l : Lent) → FaultKeeps b f l
 unfolding effectOf effectFrom

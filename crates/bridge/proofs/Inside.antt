@@ -27,7 +27,8 @@ use Rattle.commands.specs.declared.ExtendedCommand.the-variants as x
 use Rattle.bridge.specs.Views.{contextOf}
 use Rattle.bridge.proofs.View.{operandChange, viewOf}
 use Rattle.bridge.proofs.Openings.{extendedOpening, commandOpening, isExtended}
-use Rattle.bridge.proofs.Decisions.{DecisionAgrees, going-on, Opens, rejected-row}
+use Rattle.grammar.proofs.Scans.{going-on}
+use Rattle.bridge.proofs.Decisions.{DecisionAgrees, Opens, rejected-row}
 
 module _ (s : State) (b : ℕ) where
   -- no port register is in the view
@@ -76,7 +77,7 @@ module _ (s : State) (b : ℕ) where
           let n = eqb-true left 1 e in
           let z : 0 ≡ left - 1 = omega arith in
           (f .0, f .1 ∙ ap (λ (m : ℕ). going Keep m b (contextOf s)) z)
-      go false e = let n = eqb-false left 1 e in (g .0, g .1 ∙ going-on Keep (left - 1) b (contextOf s) (omega arith))
+      go false e = let n = eqb-false left 1 e in (g .0, g .1 ∙ going-on Keep (left - 1) b (contextOf s) (λ z. omega arith))
 
   loaded-agrees : (at : ℕ) (exchange : Bool) → DecisionAgrees s (Accepted (between (contextOf s))) (loadedClause at b exchange)
   loaded-agrees at true = (refl, refl)

@@ -6,7 +6,7 @@ pub mod Decisions
 pub mod Between
 pub mod Inside
 pub mod Agrees
-pub mod Ways
+pub mod StepOutcomes
 pub mod Demand1
 pub mod Demand2
 pub mod Demand3

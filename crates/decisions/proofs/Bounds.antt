@@ -15,6 +15,7 @@ use Rattle.registers.specs.declared.Event.{Event}
 use Rattle.signals.specs.Waveforms.{waveOf}
 use Rattle.signals.proofs.Counts.{wave-few}
 use Rattle.signals.proofs.Packets.{wave-packet}
+use Rattle.signals.specs.Samples.{steady}
 use Rattle.decisions.specs.Said.{returned, sent, repliesOf}
 use Rattle.decisions.specs.Decisions.{Decision, Change, Answer, Silent, Returns, ReturnsTwice, ReturnsAndSends, Checked, Sends, SendsSample, SendsLevel, SendsEprom, SendsSerial, SendsTimings, SendsPacket, SendsLow, ReturnsThenLow}
 use Rattle.decisions.specs.Changes.{changed}
@@ -27,7 +28,7 @@ use Rattle.decisions.specs.declared.Change.the-variants as c
 use Rattle.decisions.proofs.Changes.{change-packet}
 use Rattle.decisions.proofs.Keeps.{decision-keeps}
 use Rattle.decisions.proofs.Answers.{accepting, short, one-or-none, short-few}
-use Rattle.decisions.proofs.Sorted.{stays, steady, Sorted, is-proper, coded, coded-and-sent, decision-sorted}
+use Rattle.decisions.proofs.Sorted.{stays, Sorted, is-proper, coded, coded-and-sent, decision-sorted}
 
 -- how many bytes an answer sends, with reports on or off
 abbrev replyCount : Bool → State → Answer → ℕ

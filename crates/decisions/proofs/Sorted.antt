@@ -5,7 +5,6 @@ use mathlib.Core.Path.{_≡_, refl}
 use mathlib.Core.Bool.{Bool, true, false, _&&_, _||_}
 use lib.Dec.{eqb}
 use Rattle.codes.proofs.Lookup.{either, found-all}
-use Rattle.wire.specs.Sample.{samplesIn}
 use Rattle.registers.specs.declared.State.{State}
 use Rattle.registers.specs.declared.PortRegister.{PortRegister}
 use Rattle.registers.specs.declared.PortRegister.the-variants as r
@@ -16,8 +15,7 @@ use Rattle.registers.specs.declared.Wait.the-variants as v
 use Rattle.registers.specs.declared.Fault.the-variants as f
 use Rattle.registers.specs.declared.Event.{Event}
 use Rattle.registers.specs.declared.Event.the-variants as e
-use Rattle.signals.specs.declared.Waveform.{Waveform}
-use Rattle.signals.specs.declared.Waveform.the-variants as w
+use Rattle.signals.specs.Samples.{steady}
 use Rattle.commands.specs.Commands.{extendedTable, commandTable, commandOf}
 use Rattle.commands.specs.declared.Command.{Command}
 use Rattle.decisions.specs.Decisions.{Change, Decision, ReturnsAndSends, returns, sends}
@@ -49,29 +47,6 @@ stays (c.Size x) = false
 stays (c.Hold a at b) = false
 stays (c.LoadPacket at b) = false
 stays (c.LoadTimings at b) = false
-
--- a waveform that carries a verb, carries one that samples nothing
-abbrev pub steady : Waveform → Bool
-steady w.Still = true
-steady w.Reinit = true
-steady (w.ReinitHigh line) = true
-steady (w.Line verb line) = eqb (samplesIn verb) 0
-steady (w.Port verb line x) = eqb (samplesIn verb) 0
-steady (w.PortPulse line x verb n y) = eqb (samplesIn verb) 0
-steady (w.Pb7Pulse verb n) = eqb (samplesIn verb) 0
-steady (w.SampleLine line) = true
-steady (w.SamplePort line) = true
-steady w.Start = true
-steady w.Stop = true
-steady (w.WriteI2c x) = true
-steady (w.ReadI2c answer) = true
-steady w.Exchange = true
-steady w.ResetOneWire = true
-steady (w.WriteOneWire x) = true
-steady (w.WriteOneWireBit x) = true
-steady (w.WriteOneWireStrong x) = true
-steady w.ReadOneWire = true
-steady w.ReadOneWireBit = true
 
 abbrev pub proper : Decision → Bool
 proper d = accepting (d .answer) && ((stays (d .change) || short (d .answer)) && steady (d .wave))

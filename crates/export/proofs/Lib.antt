@@ -1,2 +1,2 @@
-pub mod Ways
+pub mod CallOutcomes
 pub mod Replays

@@ -3,8 +3,9 @@ use Prim.Native.Nat.{ℕ}
 use mathlib.Core.Path.{_≡_, refl, ap}
 use mathlib.Core.List.{List}
 use native.Mathlib.Omega.{arith}
+use borrow.Author.Tests.{eqb-true}
 use Rattle.wire.specs.Action.{release, driveHigh}
-use Rattle.wire.specs.Sample.{samplings}
+use Rattle.wire.specs.Sample.{samplesIn, samplings}
 use Rattle.registers.specs.declared.Page.{Page}
 use Rattle.lines.specs.Waves.{LineWave}
 use Rattle.lines.proofs.Samples as lines
@@ -20,17 +21,17 @@ unfolding waveOf samplings
 wave-takes p Still ss m h = refl
 wave-takes p Reinit ss m h = refl
 wave-takes p (ReinitHigh line) ss m h = refl
-wave-takes p (Line verb line) ss m h = omega (arith, h)
-wave-takes p (Port verb line x) ss m h = omega (arith, h)
-wave-takes p (PortPulse line x verb n y) ss m h = omega (arith, h)
-wave-takes p (Pb7Pulse verb n) ss m h = omega (arith, h)
+wave-takes p (Line verb line) ss m h = omega (arith, eqb-true (samplesIn verb) 0 (h .verb))
+wave-takes p (Port verb line x) ss m h = omega (arith, eqb-true (samplesIn verb) 0 (h .verb))
+wave-takes p (PortPulse line x verb n y) ss m h = omega (arith, eqb-true (samplesIn verb) 0 (h .verb))
+wave-takes p (Pb7Pulse verb n) ss m h = omega (arith, eqb-true (samplesIn verb) 0 (h .verb))
 wave-takes p (SampleLine line) ss m h = refl
 wave-takes p (SamplePort line) ss m h = refl
 wave-takes p Start ss m h = refl
 wave-takes p Stop ss m h = refl
 wave-takes p (WriteI2c x) ss m h = i2c.write-takes x ss m
 wave-takes p (ReadI2c answer) ss m h = i2c.read-takes answer ss m
-wave-takes p Exchange ss m h = spi.exchange-takes p (omega (arith, h .0, h .1))
+wave-takes p Exchange ss m h = spi.exchange-takes p (omega (arith, h .bits, h .register))
 wave-takes p ResetOneWire ss m h = one-wire.reset-takes (p .timings) ss m
 wave-takes p (WriteOneWire x) ss m h = one-wire.write-takes (p .timings) 8 release x refl
 wave-takes p (WriteOneWireBit x) ss m h = one-wire.write-takes (p .timings) 1 release x refl

@@ -1,35 +1,43 @@
 -- Samples used are samples taken (01, "What goes in and comes out"): "The answer carries three counts: samples used, ..".
 use Prim.Native.Nat.{ℕ, _<_}
 use mathlib.Core.Path.{_≡_}
+use mathlib.Core.Bool.{Bool, true}
 use mathlib.Core.List.{List}
+use lib.Dec.{eqb}
 use lib.ListN.{length}
 use Rattle.packet.specs.Packet.{width, registerBytes}
 use Rattle.registers.specs.declared.Page.{Page}
 use Rattle.wire.specs.Sample.{samplesIn, samplings, SameFrom}
 use Rattle.signals.specs.Waveforms.{Waveform, Still, Reinit, ReinitHigh, Line, Port, PortPulse, Pb7Pulse, SampleLine, SamplePort, Start, Stop, WriteI2c, ReadI2c, Exchange, ResetOneWire, WriteOneWire, WriteOneWireBit, WriteOneWireStrong, ReadOneWire, ReadOneWireBit, waveOf}
 
--- what a plan shows of its waveform: the verb that its name carries samples nothing; an exchange is of 1 to 64 bits of a whole register
-abbrev pub Allowed : Page → Waveform → Type 0
-Allowed p Still = Unit {0}
-Allowed p Reinit = Unit {0}
-Allowed p (ReinitHigh line) = Unit {0}
-Allowed p (Line verb line) = samplesIn verb ≡ 0
-Allowed p (Port verb line x) = samplesIn verb ≡ 0
-Allowed p (PortPulse line x verb n y) = samplesIn verb ≡ 0
-Allowed p (Pb7Pulse verb n) = samplesIn verb ≡ 0
-Allowed p (SampleLine line) = Unit {0}
-Allowed p (SamplePort line) = Unit {0}
-Allowed p Start = Unit {0}
-Allowed p Stop = Unit {0}
-Allowed p (WriteI2c x) = Unit {0}
-Allowed p (ReadI2c answer) = Unit {0}
-Allowed p Exchange = (p .size < width) × (length (p .packet) ≡ registerBytes)
-Allowed p ResetOneWire = Unit {0}
-Allowed p (WriteOneWire x) = Unit {0}
-Allowed p (WriteOneWireBit x) = Unit {0}
-Allowed p (WriteOneWireStrong x) = Unit {0}
-Allowed p ReadOneWire = Unit {0}
-Allowed p ReadOneWireBit = Unit {0}
+-- the verb that a waveform carries, if it carries one, samples nothing
+abbrev pub steady : Waveform → Bool
+steady Still = true
+steady Reinit = true
+steady (ReinitHigh line) = true
+steady (Line verb line) = eqb (samplesIn verb) 0
+steady (Port verb line x) = eqb (samplesIn verb) 0
+steady (PortPulse line x verb n y) = eqb (samplesIn verb) 0
+steady (Pb7Pulse verb n) = eqb (samplesIn verb) 0
+steady (SampleLine line) = true
+steady (SamplePort line) = true
+steady Start = true
+steady Stop = true
+steady (WriteI2c x) = true
+steady (ReadI2c answer) = true
+steady Exchange = true
+steady ResetOneWire = true
+steady (WriteOneWire x) = true
+steady (WriteOneWireBit x) = true
+steady (WriteOneWireStrong x) = true
+steady ReadOneWire = true
+steady ReadOneWireBit = true
+
+-- a waveform as a decision has it, on a page of sizes in range
+pub record Allowed (p : Page) (w : Waveform) : Type 0 where
+  pub verb : steady w ≡ true
+  pub bits : p .size < width
+  pub register : length (p .packet) ≡ registerBytes
 
 -- THEOREM (proofs/Samples.antt, `wave-takes`): a waveform uses as many samples as it has actions that sample
 abbrev pub SamplesTaken : Page → Waveform → List ℕ → ℕ → Type 0

@@ -1,4 +1,4 @@
 -- Settings saved and loaded again, the ways out of switch-on, and the factory start.
 pub mod Saved
-pub mod Ways
+pub mod SwitchOutcomes
 pub mod Start

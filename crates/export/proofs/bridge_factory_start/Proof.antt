@@ -1,6 +1,6 @@
 -- Refused for the state's length, or the start is stored.
 use borrow.Author.Needs.{needs}
-use Rattle.export.proofs.Ways.{start-refused, started}
+use Rattle.export.proofs.CallOutcomes.{start-refused, started}
 use Rattle.export.proofs.bridge_factory_start.Statement.{statement}
 use Rattle.export.proofs.bridge_factory_start.Tie as tie
 

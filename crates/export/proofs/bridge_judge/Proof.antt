@@ -3,7 +3,7 @@ use borrow.Author.Needs.{needs}
 use borrow.Author.Tests.{not-true, not-false}
 use mathlib.Core.Path.{sym, _∙_}
 use Rattle.state_bytes.proofs.Back.{state-facts}
-use Rattle.export.proofs.Ways.{judge-no-state, judge-refused, judge-judged}
+use Rattle.export.proofs.CallOutcomes.{judge-no-state, judge-refused, judge-judged}
 use Rattle.export.proofs.bridge_judge.Statement.{statement}
 use Rattle.export.proofs.bridge_judge.Tie as tie
 

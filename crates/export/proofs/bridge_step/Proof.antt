@@ -4,7 +4,7 @@ use borrow.Author.Tests.{not-true, not-false}
 use mathlib.Core.Path.{sym, _∙_}
 use Rattle.bridge.specs.Answering.{lent}
 use Rattle.state_bytes.proofs.Back.{state-facts}
-use Rattle.export.proofs.Ways.{step-no-state, step-no-event, step-answers}
+use Rattle.export.proofs.CallOutcomes.{step-no-state, step-no-event, step-answers}
 use Rattle.export.proofs.bridge_step.Statement.{statement}
 use Rattle.export.proofs.bridge_step.Tie as tie
 

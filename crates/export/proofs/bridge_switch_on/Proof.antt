@@ -1,7 +1,7 @@
 -- Refused for the state's length, or what switch-on answered.
 use borrow.Author.Needs.{needs}
 use Rattle.export.specs.Exported.{deviceOf}
-use Rattle.export.proofs.Ways.{switch-refused, switch-answers}
+use Rattle.export.proofs.CallOutcomes.{switch-refused, switch-answers}
 use Rattle.export.proofs.bridge_switch_on.Statement.{statement}
 use Rattle.export.proofs.bridge_switch_on.Tie as tie
 

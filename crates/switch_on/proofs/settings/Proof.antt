@@ -3,7 +3,7 @@ use borrow.Author.Needs.{needs}
 use borrow.Author.Tests.{not-true, not-false}
 use mathlib.Core.Path.{sym, ap, _∙_}
 use Rattle.settings.specs.Images.{pageOf}
-use Rattle.switch_on.proofs.Ways.{same-fit, none-good, none-fit, some-used}
+use Rattle.switch_on.proofs.SwitchOutcomes.{same-fit, none-good, none-fit, some-used}
 use Rattle.switch_on.proofs.settings.Statement.{statement}
 use Rattle.switch_on.proofs.settings.Tie as tie
 

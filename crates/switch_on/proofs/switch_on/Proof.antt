@@ -4,7 +4,7 @@ use native.Mathlib.Nat.{zero-add}
 use mathlib.Core.Path.{ap, _∙_, refl}
 use Rattle.wire.proofs.Buffers.{part-start, part-room, written-after}
 use Rattle.settings.specs.Images.{pageOf}
-use Rattle.switch_on.proofs.Ways.{some-settings, no-settings, refuse, goes-on}
+use Rattle.switch_on.proofs.SwitchOutcomes.{some-settings, no-settings, refuse, goes-on}
 use Rattle.switch_on.proofs.switch_on.Statement.{statement}
 use Rattle.switch_on.proofs.switch_on.Tie as tie
 

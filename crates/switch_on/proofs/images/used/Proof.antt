@@ -2,7 +2,7 @@
 use borrow.Author.Needs.{needs}
 use mathlib.Core.Path.{ap, _∙_}
 use Rattle.registers.specs.Registers.{autoloadOn}
-use Rattle.switch_on.proofs.Ways.{used-stored, used-factory}
+use Rattle.switch_on.proofs.SwitchOutcomes.{used-stored, used-factory}
 use Rattle.switch_on.proofs.images.used.Statement.{statement}
 use Rattle.switch_on.proofs.images.used.Tie as tie
 
