@@ -1,4 +1,4 @@
-//! The C functions as they are, over slices: for images of any length, marks, and numbers of any kind. All of the crate's
+//! The C functions as they are, over slices: for states and images of any length, marks, and numbers of any kind. All of the crate's
 //! `unsafe` is here. Each function answers 0 if the call was taken, else the refusal's number.
 //!
 //! What `include/bridge.h` asks of a caller is that each pointer is good for its length. Here every pointer with a length comes
@@ -83,11 +83,11 @@ pub struct Counts {
     pub actions: usize,
 }
 
-/// Where a replay goes on: the state's image and five numbers, at first the factory start and zeros. What they say between is the
+/// Where a replay goes on: the state's bytes and five numbers, at first the factory start and zeros. What they say between is the
 /// library's own.
 #[derive(Clone, PartialEq, Eq, Debug)]
 pub struct Cursor {
-    /// The image of the state.
+    /// The state's bytes.
     pub state: Vec<u8>,
     /// How far the session is read.
     pub at: usize,
@@ -207,7 +207,7 @@ pub fn replay(cursor: &mut Cursor, session: &[u8], output: &mut [u8], written: &
     }
 }
 
-/// The bytes of a state's image.
+/// How many bytes a state has.
 pub const STATE_SIZE: usize = 55;
 /// The kind of event that is a received byte.
 pub const BYTE: u8 = 1;

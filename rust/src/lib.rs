@@ -15,7 +15,7 @@ pub const MOST_ACTION_BYTES: usize = 1028;
 /// The most reply bytes that an event writes: 06.
 pub const MOST_REPLIES: usize = 10;
 
-/// A state of the bridge, as the image that `include/bridge.h` lays out.
+/// A state of the bridge, as the bytes that `include/bridge.h` lays out.
 ///
 /// Any 55 bytes can be made one; a call that is given bytes which are no state, or one out of its ranges, answers refusal 1.
 #[derive(Clone, Copy, PartialEq, Eq, Hash)]
@@ -24,19 +24,19 @@ pub struct State([u8; STATE_SIZE]);
 impl State {
     /// The state that every session starts with.
     pub fn factory_start() -> State {
-        let mut image = [0; STATE_SIZE];
-        let refusal = calls::factory_start(&mut image);
-        debug_assert_eq!(refusal, 0, "the image has the length asked for");
-        State(image)
+        let mut bytes = [0; STATE_SIZE];
+        let refusal = calls::factory_start(&mut bytes);
+        debug_assert_eq!(refusal, 0, "the state has the length asked for");
+        State(bytes)
     }
 
-    /// The state that these bytes are the image of.
-    pub fn from_image(image: [u8; STATE_SIZE]) -> State {
-        State(image)
+    /// The state of these bytes.
+    pub fn from_bytes(bytes: [u8; STATE_SIZE]) -> State {
+        State(bytes)
     }
 
-    /// The state's image.
-    pub fn image(&self) -> &[u8; STATE_SIZE] {
+    /// The state's bytes.
+    pub fn bytes(&self) -> &[u8; STATE_SIZE] {
         &self.0
     }
 
@@ -57,7 +57,7 @@ impl State {
 }
 
 impl fmt::Debug for State {
-    /// The image in hex.
+    /// The bytes in hex.
     fn fmt(&self, f: &mut fmt::Formatter<'_>) -> fmt::Result {
         write!(f, "State(")?;
         self.0.iter().try_for_each(|byte| write!(f, "{byte:02x}"))?;
@@ -162,11 +162,11 @@ pub fn step(
         Event::Byte(byte) => (calls::BYTE, byte),
         Event::Fault(fault) => (calls::FAULT, fault.code()),
     };
-    let mut image = state.0;
+    let mut bytes = state.0;
     let mut counts = Counts::default();
-    taken(calls::step(&mut image, kind, value, samples, 0, actions, 0, replies, 0, &mut counts))?;
+    taken(calls::step(&mut bytes, kind, value, samples, 0, actions, 0, replies, 0, &mut counts))?;
     let Counts { samples, replies, actions } = counts;
-    Ok(Taken { state: State(image), samples, replies, actions })
+    Ok(Taken { state: State(bytes), samples, replies, actions })
 }
 
 /// What the judge finds.
@@ -213,9 +213,9 @@ pub fn switch_on(
     actions: &mut [u8],
 ) -> Result<(State, usize), Refusal> {
     let Given { iog_count, version, serial } = given;
-    let (mut image, mut count) = ([0; STATE_SIZE], 0);
-    taken(calls::switch_on(stored, factory, iog_count, version, serial, &mut image, actions, 0, &mut count))?;
-    Ok((State(image), count))
+    let (mut bytes, mut count) = ([0; STATE_SIZE], 0);
+    taken(calls::switch_on(stored, factory, iog_count, version, serial, &mut bytes, actions, 0, &mut count))?;
+    Ok((State(bytes), count))
 }
 
 /// The replay of a session file from the factory start, in chunks whose sum is the transcript.
@@ -265,9 +265,9 @@ impl<'a> Replay<'a> {
 
     /// The state reached; the factory start again once the transcript is at its end.
     pub fn state(&self) -> State {
-        let mut image = [0; STATE_SIZE];
-        image.copy_from_slice(&self.cursor.state);
-        State(image)
+        let mut bytes = [0; STATE_SIZE];
+        bytes.copy_from_slice(&self.cursor.state);
+        State(bytes)
     }
 }
 

@@ -25,14 +25,14 @@ fn sizes_and_packets() {
     assert_eq!(after(&[2, 0x42, 65, 0x43]).2, [1]);
     // P3: two bytes for N 9.
     let start = [2, 0x40, 0, 0x42, 9, 0x44, 0xAA];
-    assert_eq!((after(&start).0.image()[44], after(&start).0.image()[45]), (15, 1));
+    assert_eq!((after(&start).0.bytes()[44], after(&start).0.bytes()[45]), (15, 1));
     // P4, P5.
     assert_eq!(
-        after(&[2, 0x40, 4, 0x42, 12, 0x44, 0x34, 0x12]).0.image()[11..19],
+        after(&[2, 0x40, 4, 0x42, 12, 0x44, 0x34, 0x12]).0.bytes()[11..19],
         [0x23, 0x40, 0, 0, 0, 0, 0, 0]
     );
     assert_eq!(
-        after(&[2, 0x40, 0, 0x42, 12, 0x44, 0x34, 0x12]).0.image()[11..19],
+        after(&[2, 0x40, 0, 0x42, 12, 0x44, 0x34, 0x12]).0.bytes()[11..19],
         [0, 0, 0, 0, 0, 0, 2, 0x34]
     );
 }
@@ -79,9 +79,9 @@ fn whole_case() {
 #[test]
 fn refusals_change_nothing() {
     let one_wire = after(&[7, 3]).0;
-    let mut wrong = *one_wire.image();
+    let mut wrong = *one_wire.bytes();
     wrong[0] = 3;
-    let bad = State::from_image(wrong);
+    let bad = State::from_bytes(wrong);
     let (mut actions, mut replies) = ([0xEE; 24], [0xEE; 1]);
     let mut refused = |state: &State, byte, samples: &[u8], room: usize, reply_room: usize| {
         let answer =
@@ -116,6 +116,6 @@ fn switching_on() {
     let (state, count) =
         switch_on(&stored, &FACTORY, Given { serial: 0x0403_0201, ..given }, &mut actions).unwrap();
     assert_eq!((state.flags(), count, &actions[24..]), (0x11, 7, &[2, 2, 0, 0][..]));
-    assert_eq!(state.image()[40..44], [1, 2, 3, 4]);
-    assert_eq!(state.image().len(), STATE_SIZE);
+    assert_eq!(state.bytes()[40..44], [1, 2, 3, 4]);
+    assert_eq!(state.bytes().len(), STATE_SIZE);
 }

@@ -1,9 +1,10 @@
 -- The three demands on the bridge's call, over the definition that the contract of `step` cites (Answering.antt). Open this file first.
 -- Proofs: `demand-1` in proofs/Demand1.antt, `demand-2` in proofs/Demand2.antt, `demand-3` in proofs/Demand3.antt.
--- What an event does, `effectOf`, is in commands/specs/Events.antt, which names the files of the clauses: a command's in Common, Extended,
--- I2c, Spi or OneWire, an operand's, a packet's or a timing byte's in Operands, a rejected byte's in Legality. What a waveform uses of the
--- samples, `used`, is in its bus's definitions: i2c_bus/specs/I2c.antt, spi_bus/specs/Spi.antt, one_wire_bus/specs/OneWire.antt, and
--- lines/specs/Waves.antt for single lines and ports.
+-- What an event does, `effectOf`, is in decisions/specs/Events.antt, which names the files of the clauses: a command's in Common, Extended,
+-- I2c, Spi or OneWire, an operand's, a packet's or a timing byte's in Operands, a rejected byte's in Rejections. Which command a byte is and
+-- whether it is legal is in commands/specs/Commands.antt and Legality.antt. What a waveform uses of the samples, `used`, is in its bus's
+-- definitions: i2c_bus/specs/I2c.antt, spi_bus/specs/Spi.antt, one_wire_bus/specs/OneWire.antt, and lines/specs/Waves.antt for single
+-- lines and ports.
 use Prim.Native.Nat.{ℕ, _+_, _-_, _*_, _<_}
 use mathlib.Core.Path.{_≡_}
 use mathlib.Core.Bool.{Bool, true, false}

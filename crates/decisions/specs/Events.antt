@@ -1,6 +1,6 @@
 -- What each event decides and does (01, from "What goes in and comes out" to "1-Wire"): a byte by what is waited for, or a line fault.
--- The clauses of the commands are in Common, Extended, I2c, Spi and OneWire, those of other bytes in Operands; which command is
--- rejected is in Legality, what a change means in Changes.
+-- The clauses of the commands are in Common, Extended, I2c, Spi and OneWire, those of other bytes in Operands, that of a rejected command
+-- in Rejections, and what a change means is in Changes. Which command a byte is and whether it is legal is in commands/specs/.
 use Prim.Native.Nat.{ℕ}
 use mathlib.Core.Bool.{Bool, true, false}
 use mathlib.Core.List.{List}
@@ -43,7 +43,7 @@ commandDecided s c (Rejected code) = rejects c code
 abbrev pub commandDecision : State → Command → Decision
 commandDecision s c = commandDecided s c (legalityOf (s .page .flags) (s .page .configured) c)
 
--- whether the byte after 1D is waited for
+-- whether the byte after 1D is waited for; for the contract of the function that asks it
 abbrev pub waitsExtended : Wait → Bool
 waitsExtended v.Nothing = false
 waitsExtended (v.One a) = false

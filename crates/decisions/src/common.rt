@@ -59,8 +59,7 @@ fn set_iog(s: State) -> Decision
 pub(crate) fn clause(s: State, c: CommonCommand) -> Decision
     ensures { λ r. ⌜ r ≡ commonClause s c ⌝ }
 {
-    let f = s.page.flags;
-    let kept = kept_flags(f);
+    let kept = kept_flags(s.page.flags);
     match c {
         CommonCommand::ResetDevice => deciding(
             Change::Reset,
@@ -81,8 +80,8 @@ pub(crate) fn clause(s: State, c: CommonCommand) -> Decision
             Answer::Returns(codes::NO_ERROR),
         ),
         CommonCommand::ReadFromEprom => sending(Answer::SendsEprom),
-        CommonCommand::SetReports(on) => set_flag(f, Bit::Three, on),
-        CommonCommand::SetAutoload(on) => set_flag(f, Bit::Four, on),
+        CommonCommand::SetReports(on) => set_flag(s.page.flags, Bit::Three, on),
+        CommonCommand::SetAutoload(on) => set_flag(s.page.flags, Bit::Four, on),
         CommonCommand::SetupPort(r) => awaiting(Wait::One(Operand::ToPort(r))),
         CommonCommand::ReadPort(r) => {
             let page = s.page;
@@ -93,7 +92,7 @@ pub(crate) fn clause(s: State, c: CommonCommand) -> Decision
             Waveform::SamplePort(line),
             Answer::SendsSample,
         ),
-        CommonCommand::ReadFlags => sending(Answer::Sends(f)),
+        CommonCommand::ReadFlags => sending(Answer::Sends(s.page.flags)),
         CommonCommand::ReadVersion => sending(Answer::Sends(s.shared.version)),
         CommonCommand::SetIog => set_iog(s),
         CommonCommand::DoExtended => awaiting(Wait::Extended),

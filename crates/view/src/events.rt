@@ -50,7 +50,7 @@ pub(crate) fn say_head(color: bool, place: usize, s: State, e: Event) {
 
 // How many of an event's replies, from the first on, are codes: those that it returned, with reports on. 41 sends the code 40 with
 // reports off too.
-pub fn codes_sent(returned: Returned, reports: bool) -> usize {
+fn codes_sent(returned: Returned, reports: bool) -> usize {
     match returned {
         Returned::Nothing => 0,
         Returned::One(code) => {

@@ -1,9 +1,9 @@
 //! `bridge_judge` beside the reference's `judge`, over scripts that are mostly orderly for long.
 
 use crate::dice::Dice;
-use crate::image;
-use crate::random::{any_image, likely_byte, state_in_range};
+use crate::random::{any_state, likely_byte, state_in_range};
 use crate::show::hex;
+use crate::state_bytes;
 use reference::actions::Lines;
 use reference::{Event, Judgement, State, Wait};
 use uart_bridge::calls;
@@ -42,12 +42,12 @@ pub fn script(dice: &mut Dice, state: &State, length: usize) -> Vec<u8> {
 }
 
 pub fn compare(dice: &mut Dice, tally: &mut Tally) -> Result<(), String> {
-    let mut start = if dice.one_in(8) { any_image(dice) } else { state_in_range(dice) };
-    if !dice.one_in(12) && start.len() == image::SIZE {
-        start[image::WAIT] = 0;
-        start[image::LEFT] = 0;
+    let mut start = if dice.one_in(8) { any_state(dice) } else { state_in_range(dice) };
+    if !dice.one_in(12) && start.len() == state_bytes::SIZE {
+        start[state_bytes::WAIT] = 0;
+        start[state_bytes::LEFT] = 0;
     }
-    let state = image::state(&start);
+    let state = state_bytes::state_of(&start);
     let length = match dice.below(5_000) {
         0 => dice.between(60_000, 200_000),
         1..=99 => dice.below(3_000),

@@ -7,11 +7,11 @@
 //! `valgrind --tool=memcheck` sees a read or a write by one byte too many.
 
 mod dice;
-mod image;
 mod judging;
 mod random;
 mod sessions;
 mod show;
+mod state_bytes;
 mod steps;
 mod switching;
 

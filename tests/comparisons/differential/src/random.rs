@@ -1,7 +1,7 @@
 //! States, events and settings, mostly in range, with what is wrong put in now and then.
 
 use crate::dice::Dice;
-use crate::image::{
+use crate::state_bytes::{
     self, CONFIG, CONFIGURED, DDRC, DDRD, FLAGS, HELD, LEFT, PACKET_SIZE, PORTC, PORTD, SIZE, WAIT,
 };
 use reference::actions::Lines;
@@ -25,7 +25,7 @@ fn timings(dice: &mut Dice) -> [u8; 9] {
     }
 }
 
-/// An image of a state in range, with any wait that its interface allows.
+/// The bytes of a state in range, with any wait that its interface allows.
 pub fn state_in_range(dice: &mut Dice) -> Box<[u8]> {
     let interface = dice.pick(&[0, I2C_SEL, SPI_SEL, SPI_SEL, ONE_WIRE_SEL]);
     let own = waits(interface);
@@ -51,65 +51,65 @@ pub fn waits(interface: u8) -> &'static [u8] {
     }
 }
 
-/// An image of a state in range, with an interface and a wait that it allows.
+/// The bytes of a state in range, with an interface and a wait that it allows.
 pub fn state_with(dice: &mut Dice, interface: u8, wait: u8) -> Box<[u8]> {
-    let mut image = image::image(&reference::factory_start());
-    image[FLAGS] = interface | dice.pick(&[0x00, 0x08, 0x10, 0x18]);
+    let mut bytes = state_bytes::bytes_of(&reference::factory_start());
+    bytes[FLAGS] = interface | dice.pick(&[0x00, 0x08, 0x10, 0x18]);
     if dice.one_in(2) {
-        image[1] = dice.byte();
+        bytes[1] = dice.byte();
     }
-    for register in &mut image[2..8] {
+    for register in &mut bytes[2..8] {
         *register = dice.byte();
     }
     for (at, zero) in [(DDRC, 0xC0), (PORTC, 0xC0), (DDRD, 0x03), (PORTD, 0x03)] {
-        image[at] &= !zero;
+        bytes[at] &= !zero;
     }
-    image[CONFIG] = dice.below(8) as u8;
-    image[CONFIGURED] = u8::from(wait == 15 || wait == 16 || !dice.one_in(5));
-    image[PACKET_SIZE] = size(dice);
+    bytes[CONFIG] = dice.below(8) as u8;
+    bytes[CONFIGURED] = u8::from(wait == 15 || wait == 16 || !dice.one_in(5));
+    bytes[PACKET_SIZE] = size(dice);
     for at in 11..19 {
-        image[at] = dice.byte();
+        bytes[at] = dice.byte();
     }
-    image[19..28].copy_from_slice(&timings(dice));
+    bytes[19..28].copy_from_slice(&timings(dice));
     for at in 28..44 {
-        image[at] = dice.byte();
+        bytes[at] = dice.byte();
     }
-    image[WAIT] = wait;
+    bytes[WAIT] = wait;
     if wait >= 15 {
-        let of = if wait == 17 { 9 } else { image[PACKET_SIZE] / 8 + 1 };
+        let of = if wait == 17 { 9 } else { bytes[PACKET_SIZE] / 8 + 1 };
         let left = if dice.one_in(3) { 1 } else { dice.between(1, usize::from(of)) as u8 };
-        image[LEFT] = left;
+        bytes[LEFT] = left;
         for k in 0..usize::from(of - left) {
-            image[HELD + k] = dice.byte();
+            bytes[HELD + k] = dice.byte();
         }
     }
     if dice.one_in(4) {
         let stray = dice.between(HELD, SIZE - 1);
-        for byte in &mut image[stray..] {
+        for byte in &mut bytes[stray..] {
             *byte = dice.byte();
         }
     }
-    image
+    bytes
 }
 
-/// Any image: mostly of a state in range, else one that breaks a clause of refusal 1 or is no state.
-pub fn any_image(dice: &mut Dice) -> Box<[u8]> {
-    let mut image = state_in_range(dice);
+/// Any bytes: mostly of a state in range, else one that breaks a clause of refusal 1 or is no state.
+pub fn any_state(dice: &mut Dice) -> Box<[u8]> {
+    let mut bytes = state_in_range(dice);
     match dice.below(40) {
-        0..=9 => break_one(&mut image, dice),
+        0..=9 => break_one(&mut bytes, dice),
         10 => {
-            break_one(&mut image, dice);
-            break_one(&mut image, dice);
+            break_one(&mut bytes, dice);
+            break_one(&mut bytes, dice);
         }
         11 => {
-            let mut bytes = image.into_vec();
-            bytes.resize(dice.pick(&[0, 1, 9, 44, 45, 46, 54, 56, 57, 64, 110]), 0);
-            image = bytes.into_boxed_slice();
+            let mut resized = bytes.into_vec();
+            resized.resize(dice.pick(&[0, 1, 9, 44, 45, 46, 54, 56, 57, 64, 110]), 0);
+            bytes = resized.into_boxed_slice();
         }
-        12 => image = dice.bytes(SIZE).into_boxed_slice(),
+        12 => bytes = dice.bytes(SIZE).into_boxed_slice(),
         _ => {}
     }
-    image
+    bytes
 }
 
 /// A byte of 64 to 255, or just past the border.
@@ -121,16 +121,16 @@ fn over(dice: &mut Dice, most: u8) -> u8 {
     }
 }
 
-fn break_one(image: &mut [u8], dice: &mut Dice) {
+fn break_one(bytes: &mut [u8], dice: &mut Dice) {
     match dice.below(16) {
-        0 => image[FLAGS] = image[FLAGS] & !7 | dice.pick(&[3, 5, 6, 7]),
-        1 => image[FLAGS] |= dice.pick(&[0x20, 0x40, 0x80, 0xE0]),
-        2 => image[PACKET_SIZE] = over(dice, 63),
-        3 => image[CONFIG] = over(dice, 7),
-        4 => image[DDRC] |= dice.pick(&[0x40, 0x80]),
-        5 => image[PORTC] |= dice.pick(&[0x40, 0x80]),
-        6 => image[DDRD] |= dice.pick(&[0x01, 0x02]),
-        7 => image[PORTD] |= dice.pick(&[0x01, 0x02]),
+        0 => bytes[FLAGS] = bytes[FLAGS] & !7 | dice.pick(&[3, 5, 6, 7]),
+        1 => bytes[FLAGS] |= dice.pick(&[0x20, 0x40, 0x80, 0xE0]),
+        2 => bytes[PACKET_SIZE] = over(dice, 63),
+        3 => bytes[CONFIG] = over(dice, 7),
+        4 => bytes[DDRC] |= dice.pick(&[0x40, 0x80]),
+        5 => bytes[PORTC] |= dice.pick(&[0x40, 0x80]),
+        6 => bytes[DDRD] |= dice.pick(&[0x01, 0x02]),
+        7 => bytes[PORTD] |= dice.pick(&[0x01, 0x02]),
         // A wait of an interface, and another interface or none.
         8 => {
             let (wait, own) = dice.pick(&[
@@ -146,36 +146,36 @@ fn break_one(image: &mut [u8], dice: &mut Dice) {
             ]);
             let others = [0, I2C_SEL, SPI_SEL, ONE_WIRE_SEL];
             let other = others.iter().copied().filter(|&o| o != own).nth(dice.below(3)).unwrap();
-            image[FLAGS] = image[FLAGS] & !7 | other;
-            image[CONFIGURED] = 1;
-            image[WAIT] = wait;
-            image[LEFT] = u8::from(wait >= 15);
+            bytes[FLAGS] = bytes[FLAGS] & !7 | other;
+            bytes[CONFIGURED] = 1;
+            bytes[WAIT] = wait;
+            bytes[LEFT] = u8::from(wait >= 15);
         }
         9 => {
-            image[FLAGS] = image[FLAGS] & !7 | SPI_SEL;
-            image[CONFIGURED] = 0;
-            image[WAIT] = dice.pick(&[15, 16]);
-            image[LEFT] = 1;
+            bytes[FLAGS] = bytes[FLAGS] & !7 | SPI_SEL;
+            bytes[CONFIGURED] = 0;
+            bytes[WAIT] = dice.pick(&[15, 16]);
+            bytes[LEFT] = 1;
         }
         10 => {
-            image[FLAGS] = image[FLAGS] & !7 | SPI_SEL;
-            image[CONFIGURED] = 1;
-            image[WAIT] = dice.pick(&[15, 16]);
-            let most = image[PACKET_SIZE] / 8 + 1;
-            image[LEFT] = if dice.one_in(2) { 0 } else { over(dice, most) };
+            bytes[FLAGS] = bytes[FLAGS] & !7 | SPI_SEL;
+            bytes[CONFIGURED] = 1;
+            bytes[WAIT] = dice.pick(&[15, 16]);
+            let most = bytes[PACKET_SIZE] / 8 + 1;
+            bytes[LEFT] = if dice.one_in(2) { 0 } else { over(dice, most) };
         }
         11 => {
-            image[FLAGS] = image[FLAGS] & !7 | ONE_WIRE_SEL;
-            image[WAIT] = 17;
-            image[LEFT] = if dice.one_in(2) { 0 } else { over(dice, 9) };
+            bytes[FLAGS] = bytes[FLAGS] & !7 | ONE_WIRE_SEL;
+            bytes[WAIT] = 17;
+            bytes[LEFT] = if dice.one_in(2) { 0 } else { over(dice, 9) };
         }
-        12 => image[CONFIGURED] = over(dice, 1),
-        13 => image[WAIT] = over(dice, 17),
+        12 => bytes[CONFIGURED] = over(dice, 1),
+        13 => bytes[WAIT] = over(dice, 17),
         14 => {
-            image[WAIT] = dice.below(15) as u8;
-            image[LEFT] = over(dice, 0);
+            bytes[WAIT] = dice.below(15) as u8;
+            bytes[LEFT] = over(dice, 0);
         }
-        _ => image[WAIT] = dice.below(18) as u8,
+        _ => bytes[WAIT] = dice.below(18) as u8,
     }
 }
 

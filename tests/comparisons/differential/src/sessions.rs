@@ -1,9 +1,9 @@
 //! `bridge_replay` beside the reference's `replay`: whole sessions in chunks of any size, and calls from wild cursors.
 
 use crate::dice::Dice;
-use crate::image;
-use crate::random::{any_image, likely_byte, samples};
+use crate::random::{any_state, likely_byte, samples};
 use crate::show::{hex, parting};
+use crate::state_bytes;
 use reference::actions::Lines;
 use reference::{Event, State};
 use uart_bridge::calls::{self, Cursor, REPLAY_ROOM};
@@ -154,7 +154,7 @@ pub fn compare(dice: &mut Dice, tally: &mut Tally) -> Result<(), String> {
 
 /// The library's transcript, by calls with random room, of which those with too little must do nothing.
 fn in_chunks(dice: &mut Dice, session: &[u8], made: &mut u64) -> Result<Vec<u8>, String> {
-    let state = image::image(&reference::factory_start()).into_vec();
+    let state = state_bytes::bytes_of(&reference::factory_start()).into_vec();
     let mut cursor = Cursor { state, at: 0, end: 0, sample: 0, sampled: 0, done: 0 };
     let mut transcript = Vec::new();
     let generous = dice.one_in(2);
@@ -219,7 +219,7 @@ fn call(dice: &mut Dice, cursor: &mut Cursor, session: &[u8], room: usize) -> Re
     Ok(output[..*written].to_vec())
 }
 
-/// A call from any cursor at all. The reference has none, so only what holds for every call is looked at: 1 exactly if the image is
+/// A call from any cursor at all. The reference has none, so only what holds for every call is looked at: 1 exactly if the bytes are
 /// no state, nothing changed then, and nothing written beyond the bytes counted.
 pub fn wild(dice: &mut Dice, tally: &mut Tally) -> Result<(), String> {
     let session = session(dice).into_boxed_slice();
@@ -231,13 +231,13 @@ pub fn wild(dice: &mut Dice, tally: &mut Tally) -> Result<(), String> {
     };
     let [at, end, sample, sampled] = [(); 4].map(|()| number(dice));
     let done = if dice.one_in(8) { dice.byte() } else { 0 };
-    let before = Cursor { state: any_image(dice).into_vec(), at, end, sample, sampled, done };
+    let before = Cursor { state: any_state(dice).into_vec(), at, end, sample, sampled, done };
     let room = if dice.one_in(3) { less_room(dice) } else { dice.between(REPLAY_ROOM, 5_000) };
     let fill = dice.byte();
     let mut output = vec![fill; room].into_boxed_slice();
     let (mut cursor, mut written) = (before.clone(), Box::new(0x5A5A));
     let refusal = calls::replay(&mut cursor, &session, &mut output, &mut written);
-    let expected = u8::from(image::state(&before.state).is_none());
+    let expected = u8::from(state_bytes::state_of(&before.state).is_none());
     let unchanged = cursor == before && *written == 0;
     let beyond = output.get(*written..).is_none_or(|rest| rest.iter().any(|&byte| byte != fill));
     if refusal != expected || refusal != 0 && !unchanged || beyond {

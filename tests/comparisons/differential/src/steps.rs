@@ -1,12 +1,12 @@
 //! `bridge_step` beside the reference's `step`: single calls of any kind, and walks from event to event.
 
 use crate::dice::Dice;
-use crate::image;
 use crate::random::{
-    any_image, event, likely_event, needs, past, room, samples, state_in_range, state_with, waits,
+    any_state, event, likely_event, needs, past, room, samples, state_in_range, state_with, waits,
     COMMON_WAITS,
 };
 use crate::show::{hex, parting};
+use crate::state_bytes;
 use reference::state::{State, I2C_SEL, ONE_WIRE_SEL, SPI_SEL};
 use std::collections::HashSet;
 use std::fmt;
@@ -15,7 +15,7 @@ use uart_bridge::calls::{self, Counts};
 /// All that goes into a call. Each slice is a piece of the heap that is as long as it says.
 #[derive(Clone)]
 struct Call {
-    image: Box<[u8]>,
+    bytes: Box<[u8]>,
     kind: u8,
     value: u8,
     samples: Box<[u8]>,
@@ -31,7 +31,7 @@ struct Call {
 struct Answer {
     refusal: u8,
     counts: Counts,
-    image: Box<[u8]>,
+    bytes: Box<[u8]>,
     actions: Box<[u8]>,
     replies: Box<[u8]>,
 }
@@ -47,10 +47,10 @@ pub struct Tally {
 pub const BYTES_TO_TAKE: usize = (9 + 10 + 13 + 13) * 256;
 
 fn by_the_library(call: &Call) -> Answer {
-    let Call { mut image, mut actions, mut replies, .. } = call.clone();
+    let Call { mut bytes, mut actions, mut replies, .. } = call.clone();
     let mut counts = Box::new(Counts { samples: 0x5A5A, replies: 0x5A5A, actions: 0x5A5A });
     let refusal = calls::step(
-        &mut image,
+        &mut bytes,
         call.kind,
         call.value,
         &call.samples,
@@ -61,7 +61,7 @@ fn by_the_library(call: &Call) -> Answer {
         call.replied,
         &mut counts,
     );
-    Answer { refusal, counts: *counts, image, actions, replies }
+    Answer { refusal, counts: *counts, bytes, actions, replies }
 }
 
 /// The refusal of a call that has no event, which would be 8 or 9: the lowest number that applies, as in 01.
@@ -80,12 +80,12 @@ fn no_event(call: &Call, state: &State, number: u8) -> u8 {
 }
 
 fn by_the_reference(call: &Call) -> Answer {
-    let Call { image, mut actions, mut replies, .. } = call.clone();
+    let Call { bytes, mut actions, mut replies, .. } = call.clone();
     let refused = |refusal| {
-        let Call { image, actions, replies, .. } = call.clone();
-        Answer { refusal, counts: Counts::default(), image, actions, replies }
+        let Call { bytes, actions, replies, .. } = call.clone();
+        Answer { refusal, counts: Counts::default(), bytes, actions, replies }
     };
-    let Some(state) = image::state(&image) else { return refused(1) };
+    let Some(state) = state_bytes::state_of(&bytes) else { return refused(1) };
     let event = match event(call.kind, call.value) {
         Ok(event) => event,
         Err(number) => return refused(no_event(call, &state, number)),
@@ -96,7 +96,7 @@ fn by_the_reference(call: &Call) -> Answer {
     Answer {
         refusal: answer.outcome,
         counts: Counts { samples: answer.samples, replies: answer.replies, actions: answer.actions },
-        image: image::image(&answer.state),
+        bytes: state_bytes::bytes_of(&answer.state),
         actions,
         replies,
     }
@@ -110,7 +110,7 @@ fn compare(call: &Call, tally: &mut Tally) -> Result<Answer, String> {
     }
     tally.by_refusal[usize::from(library.refusal)] += 1;
     if library.refusal == 0 && call.kind == calls::BYTE {
-        tally.bytes.insert((call.image[image::FLAGS] & 7, call.image[image::WAIT], call.value));
+        tally.bytes.insert((call.bytes[state_bytes::FLAGS] & 7, call.bytes[state_bytes::WAIT], call.value));
     }
     Ok(library)
 }
@@ -118,7 +118,7 @@ fn compare(call: &Call, tally: &mut Tally) -> Result<Answer, String> {
 fn difference(call: &Call, library: &Answer, reference: &Answer) -> String {
     format!(
         "step\n{call}library   {library}reference {reference}{}{}{}",
-        parting("state images", &library.image, &reference.image),
+        parting("states", &library.bytes, &reference.bytes),
         parting("actions", &library.actions, &reference.actions),
         parting("replies", &library.replies, &reference.replies),
     )
@@ -126,7 +126,7 @@ fn difference(call: &Call, library: &Answer, reference: &Answer) -> String {
 
 impl fmt::Display for Call {
     fn fmt(&self, f: &mut fmt::Formatter<'_>) -> fmt::Result {
-        writeln!(f, "state {}", hex(&self.image))?;
+        writeln!(f, "state {}", hex(&self.bytes))?;
         writeln!(f, "event kind {}, value {:02x}", self.kind, self.value)?;
         let rest = self.samples.get(self.sampled..).unwrap_or(&[]);
         writeln!(
@@ -145,7 +145,7 @@ impl fmt::Display for Answer {
     fn fmt(&self, f: &mut fmt::Formatter<'_>) -> fmt::Result {
         let Counts { samples, replies, actions } = self.counts;
         writeln!(f, "refusal {}, {samples} samples, {replies} replies, {actions} actions", self.refusal)?;
-        writeln!(f, "  state {}", hex(&self.image))
+        writeln!(f, "  state {}", hex(&self.bytes))
     }
 }
 
@@ -155,8 +155,8 @@ pub fn every(dice: &mut Dice, tally: &mut Tally) -> Result<u64, String> {
     for interface in [0, I2C_SEL, SPI_SEL, ONE_WIRE_SEL] {
         for &wait in COMMON_WAITS.iter().chain(waits(interface)) {
             for value in 0..=255 {
-                let image = state_with(dice, interface, wait);
-                one(dice, image, calls::BYTE, value, true, tally)?;
+                let bytes = state_with(dice, interface, wait);
+                one(dice, bytes, calls::BYTE, value, true, tally)?;
                 made += 1;
             }
         }
@@ -166,23 +166,23 @@ pub fn every(dice: &mut Dice, tally: &mut Tally) -> Result<u64, String> {
 
 /// One call with a new state and buffers.
 pub fn single(dice: &mut Dice, tally: &mut Tally) -> Result<(), String> {
-    let image = any_image(dice);
-    let state = image::state(&image).unwrap_or_else(reference::factory_start);
+    let bytes = any_state(dice);
+    let state = state_bytes::state_of(&bytes).unwrap_or_else(reference::factory_start);
     let (kind, value) = likely_event(dice, &state);
     let plain = dice.one_in(2);
-    one(dice, image, kind, value, plain, tally)
+    one(dice, bytes, kind, value, plain, tally)
 }
 
 /// One call with new buffers, which have room enough if the call is plain.
 fn one(
     dice: &mut Dice,
-    image: Box<[u8]>,
+    bytes: Box<[u8]>,
     kind: u8,
     value: u8,
     plain: bool,
     tally: &mut Tally,
 ) -> Result<(), String> {
-    let state = image::state(&image).unwrap_or_else(reference::factory_start);
+    let state = state_bytes::state_of(&bytes).unwrap_or_else(reference::factory_start);
     let need = match event(kind, value) {
         Ok(event) if state.in_range() => needs(&state, event),
         _ => [dice.below(3), dice.below(50), dice.below(3)],
@@ -190,7 +190,7 @@ fn one(
     let mut lend = |need: usize| if plain { (need + dice.below(9), 0) } else { room(dice, need) };
     let [(sample_size, sampled), (action_size, acted), (reply_size, replied)] = need.map(&mut lend);
     let call = Call {
-        image,
+        bytes,
         kind,
         value,
         samples: samples(dice, sample_size),
@@ -220,20 +220,20 @@ fn by_the_wrapper(call: &Call) -> Result<(), String> {
     let Call { mut actions, mut replies, .. } = call.clone();
     let rests =
         (call.samples.get(call.sampled..), actions.get_mut(call.acted..), replies.get_mut(call.replied..));
-    let (Ok(image), (Some(samples), Some(action_rest), Some(reply_rest))) =
-        (call.image[..].try_into(), rests)
+    let (Ok(bytes), (Some(samples), Some(action_rest), Some(reply_rest))) =
+        (call.bytes[..].try_into(), rests)
     else {
         return Ok(());
     };
-    let answer = step(&uart_bridge::State::from_image(image), event, samples, action_rest, reply_rest);
-    let (refusal, counts, image) = match answer {
+    let answer = step(&uart_bridge::State::from_bytes(bytes), event, samples, action_rest, reply_rest);
+    let (refusal, counts, bytes) = match answer {
         Ok(taken) => {
             let counts = Counts { samples: taken.samples, replies: taken.replies, actions: taken.actions };
-            (0, counts, Box::from(&taken.state.image()[..]))
+            (0, counts, Box::from(&taken.state.bytes()[..]))
         }
-        Err(refusal) => (refusal.0, Counts::default(), call.image.clone()),
+        Err(refusal) => (refusal.0, Counts::default(), call.bytes.clone()),
     };
-    let (wrapper, library) = (Answer { refusal, counts, image, actions, replies }, by_the_library(call));
+    let (wrapper, library) = (Answer { refusal, counts, bytes, actions, replies }, by_the_library(call));
     if wrapper != library {
         return Err(format!("wrapper's {}", difference(call, &wrapper, &library)));
     }
@@ -242,9 +242,13 @@ fn by_the_wrapper(call: &Call) -> Result<(), String> {
 
 /// Up to so many events in a row, each from the state that the one before left and after what it wrote. Answers how many.
 pub fn walk(dice: &mut Dice, most: u64, tally: &mut Tally) -> Result<u64, String> {
-    let image = if dice.one_in(3) { image::image(&reference::factory_start()) } else { state_in_range(dice) };
+    let bytes = if dice.one_in(3) {
+        state_bytes::bytes_of(&reference::factory_start())
+    } else {
+        state_in_range(dice)
+    };
     let mut call = Call {
-        image,
+        bytes,
         kind: 0,
         value: 0,
         samples: Box::new([]),
@@ -257,7 +261,7 @@ pub fn walk(dice: &mut Dice, most: u64, tally: &mut Tally) -> Result<u64, String
     lend_anew(&mut call, dice);
     let length = (dice.between(1, 150) as u64).min(most);
     for _ in 0..length {
-        let state = image::state(&call.image).expect("a walk goes on from states only");
+        let state = state_bytes::state_of(&call.bytes).expect("a walk goes on from states only");
         (call.kind, call.value) = likely_event(dice, &state);
         let answer = compare(&call, tally)?;
         if answer.refusal == 0 {
@@ -267,7 +271,7 @@ pub fn walk(dice: &mut Dice, most: u64, tally: &mut Tally) -> Result<u64, String
         } else {
             lend_anew(&mut call, dice);
         }
-        call.image = answer.image;
+        call.bytes = answer.bytes;
         if answer.refusal == 0 {
             call.actions = answer.actions;
             call.replies = answer.replies;

@@ -1,9 +1,9 @@
 //! `bridge_switch_on` and `bridge_factory_start` beside the reference's.
 
 use crate::dice::Dice;
-use crate::image::{self, SIZE};
 use crate::random::{room, settings};
 use crate::show::{hex, parting};
+use crate::state_bytes::{self, SIZE};
 use uart_bridge::calls;
 
 /// How many were switched on, and refused with 1, 3 and 11; and how many factory starts.
@@ -14,7 +14,7 @@ pub struct Tally {
     pub factory: u64,
 }
 
-fn image_size(dice: &mut Dice) -> usize {
+fn state_size(dice: &mut Dice) -> usize {
     if dice.one_in(20) {
         dice.pick(&[0, 1, 28, 54, 56, 110])
     } else {
@@ -27,18 +27,18 @@ pub fn compare(dice: &mut Dice, tally: &mut Tally) -> Result<(), String> {
     let (iog, version, serial) = (dice.byte(), dice.byte(), dice.number() as u32);
     let need = dice.pick(&[24, 28, 28]);
     let (action_size, acted) = room(dice, need);
-    let image_size = image_size(dice);
-    let before: Box<[u8]> = dice.bytes(image_size).into();
+    let state_size = state_size(dice);
+    let before: Box<[u8]> = dice.bytes(state_size).into();
     let buffer: Box<[u8]> = dice.bytes(action_size).into();
 
-    let (mut image, mut actions, mut count) = (before.clone(), buffer.clone(), Box::new(0x5A5A));
+    let (mut bytes, mut actions, mut count) = (before.clone(), buffer.clone(), Box::new(0x5A5A));
     let refusal = calls::switch_on(
         &stored,
         &factory,
         iog,
         version,
         serial,
-        &mut image,
+        &mut bytes,
         &mut actions,
         acted,
         &mut count,
@@ -46,19 +46,18 @@ pub fn compare(dice: &mut Dice, tally: &mut Tally) -> Result<(), String> {
     let library = (refusal, *count);
 
     let mut actions_after = buffer.clone();
-    let (reference, image_after) = if before.len() != SIZE {
+    let (reference, bytes_after) = if before.len() != SIZE {
         ((1, 0), before.clone())
     } else {
         let serial = serial.to_le_bytes();
         let answer = reference::switch_on(&stored, &factory, iog, version, serial, &mut actions_after, acted);
-        ((answer.outcome, answer.actions), image::image(&answer.state))
+        ((answer.outcome, answer.actions), state_bytes::bytes_of(&answer.state))
     };
-    let parted =
-        parting("state images", &image, &image_after) + &parting("actions", &actions, &actions_after);
+    let parted = parting("states", &bytes, &bytes_after) + &parting("actions", &actions, &actions_after);
     if library != reference || !parted.is_empty() {
         return Err(format!(
             "switch-on\nstored {}\nfactory {}\niog {iog:02x}, version {version:02x}, serial {serial:08x}\n\
-             image of {} bytes, actions of {action_size} bytes, mark {acted}\n\
+             bytes of {} bytes, actions of {action_size} bytes, mark {acted}\n\
              library   (refusal, count) {library:?}\nreference (refusal, count) {reference:?}\n{parted}",
             hex(&stored),
             hex(&factory),
@@ -77,17 +76,20 @@ pub fn compare(dice: &mut Dice, tally: &mut Tally) -> Result<(), String> {
 }
 
 fn factory_start(dice: &mut Dice) -> Result<(), String> {
-    let image_size = image_size(dice);
-    let before: Box<[u8]> = dice.bytes(image_size).into();
-    let mut image = before.clone();
-    let library = calls::factory_start(&mut image);
-    let (reference, after) =
-        if before.len() == SIZE { (0, image::image(&reference::factory_start())) } else { (1, before) };
-    if library != reference || image != after {
+    let state_size = state_size(dice);
+    let before: Box<[u8]> = dice.bytes(state_size).into();
+    let mut bytes = before.clone();
+    let library = calls::factory_start(&mut bytes);
+    let (reference, after) = if before.len() == SIZE {
+        (0, state_bytes::bytes_of(&reference::factory_start()))
+    } else {
+        (1, before)
+    };
+    if library != reference || bytes != after {
         return Err(format!(
             "factory start\nimage of {} bytes\nlibrary {library}\nreference {reference}\n{}",
             after.len(),
-            parting("state images", &image, &after)
+            parting("states", &bytes, &after)
         ));
     }
     Ok(())

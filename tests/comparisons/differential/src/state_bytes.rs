@@ -1,4 +1,4 @@
-//! The state image of `include/bridge.h`, for the reference's state.
+//! The bytes of a state, as in `include/bridge.h`, for the reference's state.
 
 use reference::{Operand, Register, State, Wait};
 
@@ -34,17 +34,17 @@ const OPERANDS: [Operand; 13] = [
     Operand::OneWireByteStrong,
 ];
 
-fn part<const N: usize>(image: &[u8], at: usize) -> [u8; N] {
-    image[at..at + N].try_into().unwrap()
+fn part<const N: usize>(bytes: &[u8], at: usize) -> [u8; N] {
+    bytes[at..at + N].try_into().unwrap()
 }
 
-/// The state of an image, or none if the bytes are no state.
-pub fn state(image: &[u8]) -> Option<State> {
-    if image.len() != SIZE || image[CONFIGURED] > 1 {
+/// The state of bytes, or none if the bytes are no state.
+pub fn state_of(bytes: &[u8]) -> Option<State> {
+    if bytes.len() != SIZE || bytes[CONFIGURED] > 1 {
         return None;
     }
-    let left = image[LEFT];
-    let wait = match image[WAIT] {
+    let left = bytes[LEFT];
+    let wait = match bytes[WAIT] {
         0..=14 if left != 0 => return None,
         0 => Wait::Nothing,
         code @ 1..=13 => Wait::One(OPERANDS[usize::from(code) - 1]),
@@ -55,40 +55,40 @@ pub fn state(image: &[u8]) -> Option<State> {
         _ => return None,
     };
     Some(State {
-        flags: image[0],
-        error: image[1],
-        ddrb: image[2],
-        portb: image[3],
-        ddrc: image[4],
-        portc: image[5],
-        ddrd: image[6],
-        portd: image[7],
-        config: image[8],
-        configured: image[9] == 1,
-        size: image[10],
-        packet: part(image, 11),
-        timings: part(image, 19),
-        eprom: part(image, 28),
-        iog: image[38],
-        version: image[39],
-        serial: part(image, 40),
+        flags: bytes[0],
+        error: bytes[1],
+        ddrb: bytes[2],
+        portb: bytes[3],
+        ddrc: bytes[4],
+        portc: bytes[5],
+        ddrd: bytes[6],
+        portd: bytes[7],
+        config: bytes[8],
+        configured: bytes[9] == 1,
+        size: bytes[10],
+        packet: part(bytes, 11),
+        timings: part(bytes, 19),
+        eprom: part(bytes, 28),
+        iog: bytes[38],
+        version: bytes[39],
+        serial: part(bytes, 40),
         wait,
-        held: part(image, HELD),
+        held: part(bytes, HELD),
     })
 }
 
-/// The image of a state.
-pub fn image(state: &State) -> Box<[u8]> {
-    let mut image = Vec::with_capacity(SIZE);
+/// The bytes of a state.
+pub fn bytes_of(state: &State) -> Box<[u8]> {
+    let mut bytes = Vec::with_capacity(SIZE);
     let (flags, error) = (state.flags, state.error);
-    image.extend([flags, error, state.ddrb, state.portb, state.ddrc, state.portc, state.ddrd, state.portd]);
-    image.extend([state.config, u8::from(state.configured), state.size]);
-    image.extend(state.packet);
-    image.extend(state.timings);
-    image.extend(state.eprom);
-    image.extend([state.iog, state.version]);
-    image.extend(state.serial);
-    image.extend(match state.wait {
+    bytes.extend([flags, error, state.ddrb, state.portb, state.ddrc, state.portc, state.ddrd, state.portd]);
+    bytes.extend([state.config, u8::from(state.configured), state.size]);
+    bytes.extend(state.packet);
+    bytes.extend(state.timings);
+    bytes.extend(state.eprom);
+    bytes.extend([state.iog, state.version]);
+    bytes.extend(state.serial);
+    bytes.extend(match state.wait {
         Wait::Nothing => [0, 0],
         Wait::One(operand) => [1 + OPERANDS.iter().position(|&o| o == operand).unwrap() as u8, 0],
         Wait::Extended => [14, 0],
@@ -96,7 +96,7 @@ pub fn image(state: &State) -> Box<[u8]> {
         Wait::Packet { left, exchange: true } => [16, left],
         Wait::Timings { left } => [17, left],
     });
-    image.extend(state.held);
-    assert_eq!(image.len(), SIZE);
-    image.into_boxed_slice()
+    bytes.extend(state.held);
+    assert_eq!(bytes.len(), SIZE);
+    bytes.into_boxed_slice()
 }
