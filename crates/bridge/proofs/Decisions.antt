@@ -18,7 +18,7 @@ use Rattle.decisions.specs.Decisions.{returns, sends}
 use Rattle.decisions.specs.declared.Decision.{Decision}
 use Rattle.decisions.specs.declared.Answer.the-variants.{ReturnsAndSends}
 use Rattle.commands.specs.Legality.{legalityOf}
-use Rattle.decisions.specs.Rejections.{readsConfiguration, rejects}
+use Rattle.decisions.specs.Rejections.{readsConfiguration, rejectedClause}
 use Rattle.commands.specs.declared.Legality.{Legality}
 use Rattle.commands.specs.declared.Legality.the-variants.{Legal, Rejected}
 use Rattle.decisions.specs.Changes.{changed}
@@ -49,7 +49,7 @@ module _ (s : State) where
   unfolding codesOf
   sends-code w = (λ r x. refl, refl)
 
-  rejects-code : (c : Command) (w : ℕ) → DecisionAgrees s (g.Rejected w) (rejects c w)
+  rejects-code : (c : Command) (w : ℕ) → DecisionAgrees s (g.Rejected w) (rejectedClause c w)
   rejects-code c w = either (DecisionAgrees s (g.Rejected w)) (eqb w 0x40 && readsConfiguration c) (sends (ReturnsAndSends w)) (returns w) (sends-code w) (returns-code w)
 
   module _ (b : ℕ) where

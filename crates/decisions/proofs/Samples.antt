@@ -13,7 +13,7 @@ use Rattle.decisions.specs.Decisions.{Decision}
 use Rattle.decisions.specs.Changes.{changed}
 use Rattle.decisions.specs.Effects.{effectFrom}
 use Rattle.decisions.specs.Events.{decisionOf, effectOf}
-use Rattle.decisions.specs.Promises.{SamplesTaken, SameSamples}
+use Rattle.decisions.specs.Promises.{EventTakes, EventSame}
 use Rattle.decisions.proofs.Changes.{change-packet}
 use Rattle.decisions.proofs.Keeps.{decision-keeps}
 use Rattle.decisions.proofs.Answers.{accepting, short}
@@ -25,13 +25,13 @@ sorted-steady d (is-proper p) = both-right (stays (d .change) || short (d .answe
 sorted-steady d (coded code q) = ap (λ (x : Decision). steady (x .wave)) q
 sorted-steady d (coded-and-sent code q) = ap (λ (x : Decision). steady (x .wave)) q
 
-pub event-takes : (s : State) (a : Event) (ss : List ℕ) (m : ℕ) → SamplesTaken s a ss m
+pub event-takes : (s : State) (a : Event) (ss : List ℕ) (m : ℕ) → EventTakes s a ss m
 unfolding effectOf effectFrom
 event-takes s a ss m n z =
     let d = decisionOf s a in
     wave-takes (changed s (d .change) .page) (d .wave) ss m
     (record { verb = sorted-steady d (decision-sorted s a); bits = decision-keeps s n a .page .size-register; register = change-packet s (d .change) (z .packet) })
 
-pub event-same : (s : State) (a : Event) (ss : List ℕ) (m : ℕ) (us : List ℕ) (k : ℕ) → SameSamples s a ss m us k
+pub event-same : (s : State) (a : Event) (ss : List ℕ) (m : ℕ) (us : List ℕ) (k : ℕ) → EventSame s a ss m us k
 unfolding effectOf effectFrom
 event-same s a ss m us k h = let d = decisionOf s a in ap (effectFrom (changed s (d .change)) (d .answer)) (wave-same (changed s (d .change) .page) (d .wave) ss m us k h)

@@ -16,7 +16,7 @@ use Rattle.commands.specs.declared.Command.{Command}
 use Rattle.commands.specs.Legality.{legalityOf}
 use Rattle.commands.specs.declared.Legality.{Legality}
 use Rattle.commands.specs.declared.Legality.the-variants.{Legal, Rejected}
-use Rattle.decisions.specs.Rejections.{rejects}
+use Rattle.decisions.specs.Rejections.{rejectedClause}
 use Rattle.decisions.specs.Common.{commonClause}
 use Rattle.decisions.specs.Extended.{extendedClause}
 use Rattle.decisions.specs.I2c.{i2cClause}
@@ -38,7 +38,7 @@ clauseOf s k.Unknown = sends Silent
 -- legal or not
 abbrev pub commandDecided : State → Command → Legality → Decision
 commandDecided s c Legal = clauseOf s c
-commandDecided s c (Rejected code) = rejects c code
+commandDecided s c (Rejected code) = rejectedClause c code
 
 abbrev pub commandDecision : State → Command → Decision
 commandDecision s c = commandDecided s c (legalityOf (s .page .flags) (s .page .configured) c)

@@ -33,12 +33,12 @@ abbrev pub Rejects : State → Event → List ℕ → ℕ → Type 0
 Rejects s e ss m = isRejected ((effectOf s e ss m) .said) ≡ true → OnlyError s (effectOf s e ss m)
 
 -- `event-takes` in proofs/Samples.antt: the samples used are those taken, by the actions with verb 3 or 7
-abbrev pub SamplesTaken : State → Event → List ℕ → ℕ → Type 0
-SamplesTaken s e ss m = InRange s → Sized s → (effectOf s e ss m) .used ≡ samplings ((effectOf s e ss m) .actions)
+abbrev pub EventTakes : State → Event → List ℕ → ℕ → Type 0
+EventTakes s e ss m = InRange s → Sized s → (effectOf s e ss m) .used ≡ samplings ((effectOf s e ss m) .actions)
 
 -- `event-same` in proofs/Samples.antt: samples that agree on the used places from the mark on give the same effect
-abbrev pub SameSamples : State → Event → List ℕ → ℕ → List ℕ → ℕ → Type 0
-SameSamples s e ss m us k = SameFrom ((effectOf s e ss m) .used) ss m us k → effectOf s e ss m ≡ effectOf s e us k
+abbrev pub EventSame : State → Event → List ℕ → ℕ → List ℕ → ℕ → Type 0
+EventSame s e ss m us k = SameFrom ((effectOf s e ss m) .used) ss m us k → effectOf s e ss m ≡ effectOf s e us k
 
 -- `event-actions`, `event-replies` in proofs/Bounds.antt: the most actions of an event are an exchange's, four a bit and one
 -- before; the most reply bytes are the ten of 06

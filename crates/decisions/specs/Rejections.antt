@@ -30,5 +30,5 @@ readsConfiguration (k.Spi c) = spiReadsConfiguration c
 readsConfiguration (k.OneWire c) = false
 readsConfiguration k.Unknown = false
 
-abbrev pub rejects : Command → ℕ → Decision
-rejects c code = cond (eqb code 0x40 && readsConfiguration c) (sends (ReturnsAndSends code)) (sends (Returns code))
+abbrev pub rejectedClause : Command → ℕ → Decision
+rejectedClause c code = cond (eqb code 0x40 && readsConfiguration c) (sends (ReturnsAndSends code)) (sends (Returns code))

@@ -23,6 +23,7 @@ pub(crate) fn clause(c: OneWireCommand) -> Decision
             Waveform::ResetOneWire,
             Answer::Checked(codes::NO_PRESENCE),
         ),
+        // The bit stands before the byte because that compiles best.
         OneWireCommand::SendBit => awaiting(Wait::One(Operand::ToOneWireBit)),
         OneWireCommand::SendByte => awaiting(Wait::One(Operand::ToOneWire)),
         OneWireCommand::SendStrong => awaiting(Wait::One(Operand::ToOneWireStrong)),

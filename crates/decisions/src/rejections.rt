@@ -1,6 +1,6 @@
 // What a rejected command decides.
 ghost use mathlib.Core.Path.{_≡_};
-ghost use Rattle.decisions.specs.Rejections.{readsConfiguration, spiReadsConfiguration, rejects};
+ghost use Rattle.decisions.specs.Rejections.{readsConfiguration, spiReadsConfiguration, rejectedClause};
 use crate::Answer;
 use crate::Decision;
 use crate::kinds::returning;
@@ -43,7 +43,7 @@ fn reads_configuration(c: Command) -> bool
 
 // What a rejected command decides: its code returned, and by 41 unconfigured sent too.
 pub(crate) fn rejected(c: Command, code: u8) -> Decision
-    ensures { λ r. ⌜ r ≡ rejects c code ⌝ }
+    ensures { λ r. ⌜ r ≡ rejectedClause c code ⌝ }
 {
     if (code == codes::NO_CONFIGURATION) & reads_configuration(c) {
         return sending(Answer::ReturnsAndSends(code));

@@ -103,13 +103,13 @@ unfoldable pub stepGives : List ℕ → ℕ → ℕ → Lent → StepCall
 stepGives state kind value l = cond (isState state) (stepAsked state l (eventAsked kind value)) (stepRefused (numberOf Ranges) state l)
 
 -- BRIDGE_JUDGE: "the verdict, and with BRIDGE_WRONG the place", else 0 there; refused, both stay
-pub record JudgeCall : Type 0 where
+pub record JudgeAnswer : Type 0 where
   pub number : ℕ
   pub verdict : ℕ
   pub place : ℕ
 
-abbrev pub judgeCall : ℕ → ℕ → ℕ → JudgeCall
-judgeCall n verdict place = record { number = n; verdict = verdict; place = place }
+abbrev pub judgeAnswer : ℕ → ℕ → ℕ → JudgeAnswer
+judgeAnswer n verdict place = record { number = n; verdict = verdict; place = place }
 
 abbrev pub verdictNumber : Verdict → ℕ
 verdictNumber v.Whole = 0
@@ -121,12 +121,12 @@ placeOf v.Whole = 0
 placeOf v.Open = 0
 placeOf (v.Wrong k) = k
 
-abbrev pub judgeAnswered : ℕ → ℕ → Judgement → JudgeCall
-judgeAnswered verdict place (j.Judged w) = judgeCall 0 (verdictNumber w) (placeOf w)
-judgeAnswered verdict place (j.Refused why) = judgeCall (numberOf why) verdict place
+abbrev pub judgeAnswered : ℕ → ℕ → Judgement → JudgeAnswer
+judgeAnswered verdict place (j.Judged w) = judgeAnswer 0 (verdictNumber w) (placeOf w)
+judgeAnswered verdict place (j.Refused why) = judgeAnswer (numberOf why) verdict place
 
-unfoldable pub judgeGives : List ℕ → List ℕ → ℕ → ℕ → JudgeCall
-judgeGives state bytes verdict place = cond (isState state) (judgeAnswered verdict place (judgementOf (bridgeIn state) bytes)) (judgeCall (numberOf Ranges) verdict place)
+unfoldable pub judgeGives : List ℕ → List ℕ → ℕ → ℕ → JudgeAnswer
+judgeGives state bytes verdict place = cond (isState state) (judgeAnswered verdict place (judgementOf (bridgeIn state) bytes)) (judgeAnswer (numberOf Ranges) verdict place)
 
 -- BRIDGE_SWITCH_ON: "the state goes to `state`, the actions to the buffer from the mark on. .. 1 if `state` has another length."
 pub record SwitchCall : Type 0 where

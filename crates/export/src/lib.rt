@@ -1,7 +1,7 @@
 // What C links: include/bridge.h. A state goes by its bytes, and every answer but the number by a pointer.
 ghost use mathlib.Core.Path.{_≡_};
 ghost use Rattle.bridge.specs.Answering.{lent};
-ghost use Rattle.export.specs.Exported.{startCall, startGives, stepCall, stepGives, judgeCall, judgeGives, deviceOf, switchCall, switchGives};
+ghost use Rattle.export.specs.Exported.{startCall, startGives, stepCall, stepGives, judgeAnswer, judgeGives, deviceOf, switchCall, switchGives};
 ghost use Rattle.export.specs.Replaying.{cCursor, replayCall, Replays};
 
 mod answers;
@@ -88,7 +88,7 @@ pub extern "C" fn bridge_judge(
     verdict: &mut u8,
     place: &mut usize,
 ) -> u8
-    ensures { λ r. ⌜ judgeCall r (now (verdict .exit)) (now (place .exit)) ≡ judgeGives (now (state .entry)) (now (bytes .entry)) (now (verdict .entry)) (now (place .entry)) ⌝ }
+    ensures { λ r. ⌜ judgeAnswer r (now (verdict .exit)) (now (place .exit)) ≡ judgeGives (now (state .entry)) (now (bytes .entry)) (now (verdict .entry)) (now (place .entry)) ⌝ }
 {
     if !decoding::is_state(state) {
         return refusals::number(Refusal::Ranges);

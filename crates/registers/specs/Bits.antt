@@ -19,12 +19,12 @@ abbrev pub withBit : Bit → Bool → ℕ → ℕ
 withBit b on x = x % weightOf b + bitOf on * weightOf b + x / (weightOf b * 2) * (weightOf b * 2)
 
 -- its number
-abbrev pub placeOf : Bit → ℕ
-placeOf Three = 3
-placeOf Four = 4
-placeOf Five = 5
+abbrev pub bitNumber : Bit → ℕ
+bitNumber Three = 3
+bitNumber Four = 4
+bitNumber Five = 5
 
 -- THEOREM (proofs/OneBit.antt, `one-bit`): the bit of that number is set or cleared, and every other is the register's
 pub record OneBit (b : Bit) (on : Bool) (x : ℕ) : Type 0 where
-  pub own : bit (placeOf b) (withBit b on x) ≡ bitOf on
-  pub others : (i : ℕ) → ¬ (i ≡ placeOf b) → bit i (withBit b on x) ≡ bit i x
+  pub own : bit (bitNumber b) (withBit b on x) ≡ bitOf on
+  pub others : (i : ℕ) → ¬ (i ≡ bitNumber b) → bit i (withBit b on x) ≡ bit i x

@@ -14,9 +14,9 @@ use Rattle.spi_bus.specs.Spi.{spiExchange}
 use Rattle.spi_bus.proofs.Samples as spi
 use Rattle.one_wire_bus.proofs.Samples as one-wire
 use Rattle.signals.specs.Waveforms.{Waveform, Still, Reinit, ReinitHigh, Line, Port, PortPulse, Pb7Pulse, SampleLine, SamplePort, Start, Stop, WriteI2c, ReadI2c, Exchange, ResetOneWire, WriteOneWire, WriteOneWireBit, WriteOneWireStrong, ReadOneWire, ReadOneWireBit, leaving, keeping, waveOf}
-use Rattle.signals.specs.Samples.{SamplesTaken, SameSamples}
+use Rattle.signals.specs.Samples.{WaveTakes, WaveSame}
 
-pub wave-takes : (p : Page) (w : Waveform) (ss : List ℕ) (m : ℕ) → SamplesTaken p w ss m
+pub wave-takes : (p : Page) (w : Waveform) (ss : List ℕ) (m : ℕ) → WaveTakes p w ss m
 unfolding waveOf samplings
 wave-takes p Still ss m h = refl
 wave-takes p Reinit ss m h = refl
@@ -44,7 +44,7 @@ wave-takes p ReadOneWireBit ss m h = one-wire.read-bit-takes (p .timings) ss m
 kept : (p : Page) {v w : LineWave} → v ≡ w → keeping p v ≡ keeping p w
 kept p e = ap (keeping p) e
 
-pub wave-same : (p : Page) (w : Waveform) (ss : List ℕ) (m : ℕ) (us : List ℕ) (k : ℕ) → SameSamples p w ss m us k
+pub wave-same : (p : Page) (w : Waveform) (ss : List ℕ) (m : ℕ) (us : List ℕ) (k : ℕ) → WaveSame p w ss m us k
 unfolding waveOf
 wave-same p Still ss m us k h = refl
 wave-same p Reinit ss m us k h = refl

@@ -40,9 +40,9 @@ pub record Allowed (p : Page) (w : Waveform) : Type 0 where
   pub register : length (p .packet) ≡ registerBytes
 
 -- THEOREM (proofs/Samples.antt, `wave-takes`): a waveform uses as many samples as it has actions that sample
-abbrev pub SamplesTaken : Page → Waveform → List ℕ → ℕ → Type 0
-SamplesTaken p w ss m = Allowed p w → (waveOf p w ss m) .used ≡ samplings ((waveOf p w ss m) .actions)
+abbrev pub WaveTakes : Page → Waveform → List ℕ → ℕ → Type 0
+WaveTakes p w ss m = Allowed p w → (waveOf p w ss m) .used ≡ samplings ((waveOf p w ss m) .actions)
 
 -- THEOREM (proofs/Samples.antt, `wave-same`): samples that agree on the used places from the mark on give the same waveform
-abbrev pub SameSamples : Page → Waveform → List ℕ → ℕ → List ℕ → ℕ → Type 0
-SameSamples p w ss m us k = SameFrom ((waveOf p w ss m) .used) ss m us k → waveOf p w ss m ≡ waveOf p w us k
+abbrev pub WaveSame : Page → Waveform → List ℕ → ℕ → List ℕ → ℕ → Type 0
+WaveSame p w ss m us k = SameFrom ((waveOf p w ss m) .used) ss m us k → waveOf p w ss m ≡ waveOf p w us k

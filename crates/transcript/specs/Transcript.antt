@@ -50,12 +50,13 @@ refusalOf why place = recordOf 0x01FF (word16 (numberOf why) ++ word32 place)
 abbrev pub mostOutput : ℕ
 mostOutput = 4 + 4 * mostActions + 4 + mostReplies
 
+-- room for what the event gives
 abbrev pub Suffices : Bridge → Event → Lent → Type 0
 Suffices b e l =
     (fitsIn (length (l .actions)) (l .acted) (length (bytesOf (effect b e l .actions))) ≡ true) × (fitsIn (length (l .replies)) (l .replied) (length (sentBy (effect b e l))) ≡ true)
 
--- THEOREM (proofs/Room.antt, `any-room`): a call with the same samples and any room that suffices answers as the history's, and
--- writes what that one gives
+-- THEOREM (proofs/Room.antt, `any-room`): a call with the same samples and any room that suffices answers as `callOf`, and writes
+-- what that one gives
 pub record SameCall (b : Bridge) (e : Event) (l : Lent) : Type 0 where
   pub answer : answerOf b e l .answer ≡ callOf b e (l .samples) .answer
   pub actions : callOf b e (l .samples) .answer .outcome ≡ Taken → answerOf b e l .actions ≡ overwrite (l .actions) (l .acted) (callOf b e (l .samples) .actions)
