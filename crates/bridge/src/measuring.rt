@@ -33,7 +33,7 @@ pub fn measure(s: State, event: Event, samples: &[u8], sampled: usize) -> Measur
 {
     let d = decisions::decision_of(s, event);
     let change = d.change;
-    let changed = effects::changes::apply(s, change);
+    let changed = changes::apply(s, change);
     let page = changed.page;
     let wave = d.wave;
     let answer = d.answer;

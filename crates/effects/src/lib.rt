@@ -1,5 +1,4 @@
-// The effects of a decision: its change made to the state, and its answer left in ERROR and sent.
-pub mod changes;
+// The effects of a decision's answer: what is left in ERROR, what is sent, and the codes returned.
 pub mod replies;
 pub mod returning;
 pub mod sending;

@@ -1,7 +1,7 @@
 -- One register of the page another.
 use borrow.Author.Needs.{needs}
-use Rattle.effects.proofs.changes.store.Statement.{statement}
-use Rattle.effects.proofs.changes.store.Tie as tie
+use Rattle.changes.proofs.store.Statement.{statement}
+use Rattle.changes.proofs.store.Tie as tie
 
 pub store-spec : {M : Type 1} → statement M
 store-spec =

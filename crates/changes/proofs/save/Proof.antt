@@ -1,7 +1,7 @@
 -- The image is stored in the shared part alone.
 use borrow.Author.Needs.{needs}
-use Rattle.effects.proofs.changes.save.Statement.{statement}
-use Rattle.effects.proofs.changes.save.Tie as tie
+use Rattle.changes.proofs.save.Statement.{statement}
+use Rattle.changes.proofs.save.Tie as tie
 
 pub save-spec : {M : Type 1} → statement M
 save-spec =

@@ -1,7 +1,7 @@
 -- The flags kept are those of the definition.
 use borrow.Author.Needs.{needs}
-use Rattle.effects.proofs.changes.reset.Statement.{statement}
-use Rattle.effects.proofs.changes.reset.Tie as tie
+use Rattle.changes.proofs.reset.Statement.{statement}
+use Rattle.changes.proofs.reset.Tie as tie
 
 pub reset-spec : {M : Type 1} → statement M
 reset-spec =

@@ -1,7 +1,7 @@
 -- With the last byte the register is the packet's own load.
 use borrow.Author.Needs.{needs}
-use Rattle.effects.proofs.changes.load_packet.Statement.{statement}
-use Rattle.effects.proofs.changes.load_packet.Tie as tie
+use Rattle.changes.proofs.load_packet.Statement.{statement}
+use Rattle.changes.proofs.load_packet.Tie as tie
 
 pub load-packet-spec : {M : Type 1} → statement M
 load-packet-spec =

@@ -1,7 +1,7 @@
 -- With the last byte all are stored.
 use borrow.Author.Needs.{needs}
-use Rattle.effects.proofs.changes.load_timings.Statement.{statement}
-use Rattle.effects.proofs.changes.load_timings.Tie as tie
+use Rattle.changes.proofs.load_timings.Statement.{statement}
+use Rattle.changes.proofs.load_timings.Tie as tie
 
 pub load-timings-spec : {M : Type 1} → statement M
 load-timings-spec =

@@ -1,7 +1,7 @@
 -- Change by change.
 use borrow.Author.Needs.{needs}
-use Rattle.effects.proofs.changes.apply.Statement.{statement}
-use Rattle.effects.proofs.changes.apply.Tie as tie
+use Rattle.changes.proofs.apply.Statement.{statement}
+use Rattle.changes.proofs.apply.Tie as tie
 
 pub apply-spec : {M : Type 1} → statement M
 apply-spec =

@@ -1,7 +1,7 @@
 -- The byte is held with the others.
 use borrow.Author.Needs.{needs}
-use Rattle.effects.proofs.changes.hold.Statement.{statement}
-use Rattle.effects.proofs.changes.hold.Tie as tie
+use Rattle.changes.proofs.hold.Statement.{statement}
+use Rattle.changes.proofs.hold.Tie as tie
 
 pub hold-spec : {M : Type 1} → statement M
 hold-spec =

@@ -2,8 +2,8 @@
 use borrow.Author.Needs.{needs}
 use mathlib.Core.Path.{ap, _∙_}
 use Rattle.registers.specs.Registers.{ended}
-use Rattle.effects.proofs.changes.end_with_page.Statement.{statement}
-use Rattle.effects.proofs.changes.end_with_page.Tie as tie
+use Rattle.changes.proofs.end_with_page.Statement.{statement}
+use Rattle.changes.proofs.end_with_page.Tie as tie
 
 pub end-with-page-spec : {M : Type 1} → statement M
 end-with-page-spec =
