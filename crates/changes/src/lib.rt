@@ -35,11 +35,11 @@ fn reinit(mut s: State, flags: u8) -> State
 fn reset(mut s: State) -> State
     ensures { λ t. ⌜ t ≡ changed s Change.Reset ⌝ }
 {
-    let kept = kept_flags(s.page.flags);
     s.page.error = 0;
     s.page.config = 0;
     s.page.configured = false;
     s.page.size = 0;
+    let kept = kept_flags(s.page.flags);
     reinit(s, kept)
 }
 

@@ -9,4 +9,4 @@ reset-spec =
     (tie.spec
     (λ c κs. search needs)
     (λ c κs. search needs)
-    (λ c. rw (← c .before .before .before .before .before .kept-flags .ensures .0) (c .reinit .ensures)))
+    (λ c. rw (← c .before .kept-flags .ensures .0) (c .reinit .ensures)))
