@@ -1,4 +1,5 @@
--- Which commands are legal in a state, and the code that rejects each other one (01). Codes that reject stand here and nowhere else.
+-- Which commands are legal in a state, and the code that rejects each other one (01): no other definition says which code rejects a
+-- command. What a rejected command then decides stands in decisions/specs/Rejections.antt.
 use Prim.Native.Nat.{ℕ}
 use mathlib.Core.Bool.{Bool, true, false, not, cond, _&&_}
 use Rattle.registers.specs.Registers.{i2cSelected, spiSelected, oneWireSelected}

@@ -9,7 +9,7 @@ use registers::parts::one_wire_selected;
 use registers::parts::spi_selected;
 
 // Whether a command is common, or of the interface that is selected; what is no command is neither.
-fn is_selected(flags: u8, c: Command) -> bool
+pub fn is_selected(flags: u8, c: Command) -> bool
     ensures { λ r. ⌜ r ≡ isSelected flags c ⌝ }
 {
     match c {

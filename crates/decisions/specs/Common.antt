@@ -16,7 +16,8 @@ use Rattle.decisions.specs.declared.Change.the-variants as c
 use Rattle.commands.specs.declared.CommonCommand.{CommonCommand}
 use Rattle.commands.specs.declared.CommonCommand.the-variants as k
 
--- "01, 02, 03 clear the same common flags, set their own; reinit, then CS (01) or SS (02) high; 00"
+-- "01, 02, 03 clear the same common flags, set their own; reinit, then CS (01) or SS (02) high; 00": to the flags kept, which are those
+-- that 00 does not clear, one is added
 abbrev pub selects : ℕ → ℕ → Waveform → Decision
 selects kept flag wave = decision (c.Select (kept + flag)) wave (Returns 0x00)
 

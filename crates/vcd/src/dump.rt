@@ -1,9 +1,11 @@
 // What a dump shows: nine lines and the direction and latch registers of three ports, and when they change.
-use crate::text::put;
-use crate::text::put_bits;
-use crate::text::put_level;
-use crate::text::put_register;
-use crate::text::put_time;
+use actions::levels::FREE;
+use actions::levels::HIGH;
+use value_changes::put;
+use value_changes::put_bits;
+use value_changes::put_level;
+use value_changes::put_register;
+use value_changes::put_time;
 use vcd_texts::header::write_header;
 
 // How many lines there are; the variables after them are registers.
@@ -12,24 +14,6 @@ pub(crate) const LINES: usize = 9;
 const VARIABLES: usize = 15;
 
 const SCK: usize = wire::LINE_SCK as usize;
-
-const IDENTIFIERS: [u8; VARIABLES] = [
-    b'A',
-    b'B',
-    b'C',
-    b'D',
-    b'E',
-    b'F',
-    b'G',
-    b'H',
-    b'I',
-    b'J',
-    b'K',
-    b'L',
-    b'M',
-    b'N',
-    b'O',
-];
 
 // Whether registers are written bit by bit, the level of a line that nobody drives and that of SCK before it is driven, which lines
 // are driven, the variables' values now and as they were last written, the time in microseconds and whether it is written, the place
@@ -50,19 +34,29 @@ pub(crate) struct Dump {
 
 // One value for all lines and one for all registers.
 fn all(line: u8, register: u8) -> [u8; VARIABLES] {
-    let mut values = [register; VARIABLES];
-    let mut k: usize = 0;
-    while k < LINES {
-        values[k] = line;
-        k += 1;
-    }
-    values
+    [
+        line,
+        line,
+        line,
+        line,
+        line,
+        line,
+        line,
+        line,
+        line,
+        register,
+        register,
+        register,
+        register,
+        register,
+        register,
+    ]
 }
 
 // The start of a dump: the time 0 is written, and no variable, which `x` says, and FF of a register, since it differs in every bit.
 // With pull-ups a free line is high, SCK as its clock begins, and registers are written bit by bit.
 fn start(pull_up: bool, clock: u8) -> Dump {
-    let free = if pull_up { b'1' } else { b'z' };
+    let free = if pull_up { HIGH } else { FREE };
     let d = Dump {
         bit_by_bit: pull_up,
         free,
@@ -85,6 +79,25 @@ pub(crate) fn begin(pull_up: bool, clock: u8, text: &mut [u8]) -> Dump {
     let mut d = start(pull_up, clock).changes(text);
     d.used = put(text, d.used, b"$end\n");
     d
+}
+
+// A variable's new value: a line's level, or a register's byte, of which bit by bit only what changed.
+fn put_value(
+    text: &mut [u8],
+    used: usize,
+    variable: usize,
+    old: u8,
+    value: u8,
+    bit_by_bit: bool,
+) -> usize {
+    let identifier = wire::byte_at(b"ABCDEFGHIJKLMNO", variable);
+    if variable < LINES {
+        return put_level(text, used, value, identifier);
+    }
+    if bit_by_bit {
+        return put_bits(text, used, old, value, identifier);
+    }
+    put_register(text, used, value, identifier)
 }
 
 impl Dump {
@@ -114,12 +127,6 @@ impl Dump {
         self
     }
 
-    // An event's samples are read from a place of the session on.
-    pub(crate) fn at_sample(mut self, place: usize) -> Dump {
-        self.sample = place;
-        self
-    }
-
     // Writes the time, unless it is written.
     pub(crate) fn stamp(mut self, text: &mut [u8]) -> Dump {
         if !self.stamped {
@@ -134,21 +141,14 @@ impl Dump {
         if VARIABLES <= variable {
             return self;
         }
+        let old = self.written[variable];
         let value = self.now[variable];
-        if value == self.written[variable] {
+        if value == old {
             return self;
         }
         let mut d = self.stamp(text);
-        let name = IDENTIFIERS[variable];
-        let old = d.written[variable];
         d.written[variable] = value;
-        d.used = if variable < LINES {
-            put_level(text, d.used, value, name)
-        } else if d.bit_by_bit {
-            put_bits(text, d.used, old, value, name)
-        } else {
-            put_register(text, d.used, value, name)
-        };
+        d.used = put_value(text, d.used, variable, old, value, d.bit_by_bit);
         d
     }
 

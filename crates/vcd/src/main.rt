@@ -1,16 +1,19 @@
 // Writes a session, that of standard input or of the file that the argument names, as a Value Change Dump (IEEE 1364) of the lines
 // and the ports' registers.
-mod actions;
 mod dump;
-mod step;
-mod text;
 mod waveform;
 
+use actions::levels::FREE;
+use actions::levels::HIGH;
+use actions::levels::first_driven;
 use dump::Dump;
 use input::Input;
-use step::ACTIONS;
+use records::reading::Record;
+use records::reading::record_at;
 
-// The kinds of a replay's records that the dump shows beside actions.
+// The kinds of a replay's records that the dump shows.
+const ACTIONS: usize = 0x0102;
+
 const LAST: usize = 0x0104;
 
 const REFUSAL: usize = 0x01FF;
@@ -24,7 +27,7 @@ fn goes_on() -> bool {
 
 // What is collected goes out; text that can't be written ends the dump.
 fn send(mut d: Dump, text: &[u8]) -> Dump {
-    if !text::flush(text, d.used) {
+    if !value_changes::flush(text, d.used) {
         os::fail(b"standard output");
         d.broken = true;
     }
@@ -48,12 +51,24 @@ fn show_record(d: Dump, kind: usize, body: &[u8], session: &[u8], text: &mut [u8
     }
 }
 
+// What a step of the replay wrote: actions are its first record, and the last record and a refusal its only one.
 fn show_step(d: Dump, records: &[u8], session: &[u8], text: &mut [u8]) -> Dump {
-    let r = step::first(records);
-    let start = r.start;
-    let end = r.end;
-    let shown = show_record(d, r.kind, &records[start..end], session, text);
+    let Record::Body { kind, start, end } = record_at(records, 0) else {
+        return d;
+    };
+    let shown = show_record(d, kind, &records[start..end], session, text);
     send(shown, text)
+}
+
+// The level that a step first drives SCK to, free if it does not.
+fn clock_in(records: &[u8]) -> u8 {
+    let Record::Body { kind, start, end } = record_at(records, 0) else {
+        return FREE;
+    };
+    if kind == ACTIONS {
+        return first_driven(&records[start..end], wire::LINE_SCK as usize);
+    }
+    FREE
 }
 
 // The level that SCK is first driven to, high if it never is: with pull-ups it is shown from the start on, so that the first
@@ -67,33 +82,29 @@ fn first_clock(session: &[u8]) -> u8 {
         let n = r.written;
         let next = r.cursor;
         cursor = next;
-        let level = step::clock(&records[..n]);
-        if level != b'z' {
+        let level = clock_in(&records[..n]);
+        if level != FREE {
             return level;
         }
     }
-    b'1'
-}
-
-fn clock_at_start(session: &[u8], pull_up: bool) -> u8 {
-    if pull_up { first_clock(session) } else { b'z' }
+    HIGH
 }
 
 // Each step of the replay by itself, since the dump goes by events.
 fn write_dump(session: &[u8], pull_up: bool) {
     let mut text = io::large_buffer();
     let mut records = io::buffer();
-    let clock = clock_at_start(session, pull_up);
+    let clock = if pull_up { first_clock(session) } else { FREE };
     let mut d = dump::begin(pull_up, clock, &mut text);
     let mut cursor = session::replay::start();
     while !cursor.done {
-        let from = d.at_sample(cursor.sample);
+        d.sample = cursor.sample;
         let a = session::replay::advance(cursor, session, &mut records);
         let r = a.ran;
         let n = r.written;
         let next = r.cursor;
         cursor = next;
-        let shown = show_step(from, &records[..n], session, &mut text);
+        let shown = show_step(d, &records[..n], session, &mut text);
         if shown.broken {
             return;
         }

@@ -1,16 +1,18 @@
 // The waveform of an event.
 ghost use Prim.Native.Nat.{_<_, _≤_};
-use crate::actions::Action;
-use crate::actions::NEAR;
-use crate::actions::action_at;
-use crate::actions::driven_level;
-use crate::actions::is_sample;
-use crate::actions::is_sampled;
-use crate::actions::is_wait;
-use crate::actions::no_action;
-use crate::actions::wait_of;
 use crate::dump::Dump;
 use crate::dump::LINES;
+use actions::levels::HIGH;
+use actions::levels::LOW;
+use actions::levels::NEAR;
+use actions::levels::driven_level;
+use actions::levels::is_sampled;
+use actions::reading::Action;
+use actions::reading::action_at;
+use actions::reading::is_sample;
+use actions::reading::is_wait;
+use actions::reading::none;
+use actions::reading::wait_of;
 use wire::ACTION_BYTES;
 use wire::LINE_PORT_B;
 use wire::LINE_PORT_C;
@@ -24,9 +26,9 @@ use wire::VERB_SAMPLE_LINE;
 // The level that the next sample of the event shows. An event samples one line only, so its next sample is that line's.
 fn next_level(d: Dump, session: &[u8]) -> u8 {
     if wire::level_at(session, d.sample) == 0 {
-        b'0'
+        LOW
     } else {
-        b'1'
+        HIGH
     }
 }
 
@@ -178,7 +180,7 @@ fn show_action(
 // An event by its actions.
 pub(crate) fn show_event(d: Dump, actions: &[u8], session: &[u8], text: &mut [u8]) -> Dump {
     let mut e = show_free_lines(d, actions, session);
-    let mut before = no_action();
+    let mut before = none();
     let mut at: usize = 0;
     while ACTION_BYTES <= actions.len() - at {
         let a = action_at(actions, at);

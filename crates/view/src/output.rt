@@ -3,8 +3,8 @@ use crate::refused::Refused;
 use crate::refused::read_refusal;
 use records::reading::Record;
 use records::reading::record_at;
-use wording::actions::say_actions;
 use wording::replies::say_replies;
+use wording::waveform::say_actions;
 
 // The kinds of the records.
 pub(crate) const REPLIES: usize = 0x0101;

@@ -27,7 +27,7 @@ use session::next::next_at;
 use session::replay::Cursor;
 use std::num::wrapping_add_usize;
 use transcript::MOST_OUTPUT;
-use wording::commands::say_wait;
+use wording::items::say_wait;
 use wording::text::finish;
 use wording::text::say;
 use wording::text::say_count;
