@@ -81,7 +81,8 @@ pub(crate) fn begin(pull_up: bool, clock: u8, text: &mut [u8]) -> Dump {
     d
 }
 
-// A variable's new value: a line's level, or a register's byte, of which bit by bit only what changed.
+// A variable's new value: a line's level, or a register's byte, of which bit by bit only what changed. The identifiers are those of the
+// header, in the variables' order.
 fn put_value(
     text: &mut [u8],
     used: usize,

@@ -2,14 +2,15 @@
 -- what writing all of them leaves. Each of the other loops takes on what was owed when it began.
 use borrow.Author.Needs.{needs}
 use mathlib.Core.Path.{_≡_, sym, ap, _∙_}
+use mathlib.Core.Bool.{Bool, cond}
 use mathlib.Core.List.{List, [], _∷_}
-use Prim.Native.Nat.{ℕ, _+_, _-_, _%_, _≤_, _<_}
+use Prim.Native.Nat.{ℕ, _+_, _-_, _/_, _%_, _≤_, _<_}
 use native.Mathlib.Nat.{add-zero}
 use native.Mathlib.Omega.{arith}
-use lib.ListN.{length}
+use lib.ListN.{length, getD}
 use Rattle.wire.specs.Action.{bytesOf, sck}
 use Rattle.wire.proofs.Buffers.{overwrite-length, written-append}
-use Rattle.packet.specs.Packet.{registerBytes, sent}
+use Rattle.packet.specs.Packet.{width, registerBytes, sent, sentAt}
 use Rattle.packet.proofs.Places.{length-sent, sent-at, byte-sent}
 use Rattle.lines.specs.Lines.{driven, forEach}
 use Rattle.spi_bus.specs.Spi.{spiBit}
@@ -41,6 +42,11 @@ Inv-loop3 out₀ r n high polarity phase at₀ i₀ out at i =
 
 abbrev μ-loop3 : tie.MeasureT-loop3
 μ-loop3 out₀ r n high polarity phase at₀ i₀ out at i = n - i
+
+-- the bit of a byte is the one sent at its place among all
+sent-bit : (n : ℕ) (high : Bool) (r : List ℕ) (i j : ℕ) {b x : ℕ} → length r ≡ registerBytes → n ≤ width → i % 8 ≡ 0 → j < 8 → i + j < n
+    → b ≡ getD r (cond high (i / 8) (registerBytes - 1 - i / 8)) 0 → x ≡ sentAt high (b ∷ []) j → getD (sent n high r) (i + j) 0 ≡ x
+sent-bit n high r i j l m e hj h b x = sent-at n high r (i + j) h ∙ byte-sent high registerBytes r i j l e hj (omega (arith, h, m)) b ∙ sym x
 
 pub put-bits-spec : {M : Type 1} → statement M
 put-bits-spec =
@@ -75,9 +81,8 @@ put-bits-spec =
     let m = y .before .before in
     let s = m .before .before .before .before .before .before .before in
     let n : length (sent (s .args .n) (s .args .high) (s .args .r)) ≡ s .args .n = length-sent (s .args .n) (s .args .high) (s .args .r) (omega (arith, s .good .1 .0 .1 .0 .1)) in
-    let l : length (s .args .r) ≡ registerBytes = omega (arith, s .good .1 .0 .1 .0 .1) in
     let h : m .loop .i + q .loop2 .j < s .args .n = omega (arith, y .before .loop-test .taken, b .before .loop2-test .taken, m .loop .inv .0) in
-    let e = sent-at (s .args .n) (s .args .high) (s .args .r) (m .loop .i + q .loop2 .j) h ∙ byte-sent (s .args .high) registerBytes (s .args .r) (m .loop .i) (q .loop2 .j) l (m .loop .inv .1) (b .before .loop2-test .taken) (omega (arith, h, s .pre .0)) (y .byte-to-send .ensures) ∙ sym (b .bit-of-byte .ensures .0) in
+    let e = sent-bit (s .args .n) (s .args .high) (s .args .r) (m .loop .i) (q .loop2 .j) (omega (arith, s .good .1 .0 .1 .0 .1)) (s .pre .0) (m .loop .inv .1) (b .before .loop2-test .taken) h (y .byte-to-send .ensures) (b .bit-of-byte .ensures .0) in
     let o = q .loop2 .inv .2 _ _ (m .loop .inv .3) in
     (omega (arith, bit-bytes (s .args .polarity) (s .args .phase) (b .bit-of-byte .result), owed-fits (spiBit (s .args .polarity) (s .args .phase)) _ o (omega (arith, n, h)) e (m .loop .inv .2)), (search needs, b .bit-of-byte .ensures .1)))
     (λ c.
@@ -98,9 +103,8 @@ put-bits-spec =
     let m = y .before .before in
     let s = m .before .before .before .before .before .before .before in
     let n : length (sent (s .args .n) (s .args .high) (s .args .r)) ≡ s .args .n = length-sent (s .args .n) (s .args .high) (s .args .r) (omega (arith, s .good .1 .0 .1 .0 .1)) in
-    let l : length (s .args .r) ≡ registerBytes = omega (arith, s .good .1 .0 .1 .0 .1) in
     let h : m .loop .i + q .loop2 .j < s .args .n = omega (arith, y .before .loop-test .taken, b .before .loop2-test .taken, m .loop .inv .0) in
-    let e = sent-at (s .args .n) (s .args .high) (s .args .r) (m .loop .i + q .loop2 .j) h ∙ byte-sent (s .args .high) registerBytes (s .args .r) (m .loop .i) (q .loop2 .j) l (m .loop .inv .1) (b .before .loop2-test .taken) (omega (arith, h, s .pre .0)) (y .byte-to-send .ensures) ∙ sym (b .bit-of-byte .ensures .0) in
+    let e = sent-bit (s .args .n) (s .args .high) (s .args .r) (m .loop .i) (q .loop2 .j) (omega (arith, s .good .1 .0 .1 .0 .1)) (s .pre .0) (m .loop .inv .1) (b .before .loop2-test .taken) h (y .byte-to-send .ensures) (b .bit-of-byte .ensures .0) in
     let now = owed-turn (spiBit (s .args .polarity) (s .args .phase)) _ (q .loop2 .inv .2 _ _ (m .loop .inv .3)) (omega (arith, n, h)) e (p .put-bit .ensures) in
     (omega arith, owed-within now (m .loop .inv .2), λ l start o. owed-at (omega arith) (owed-turn (spiBit (s .args .polarity) (s .args .phase)) _ (q .loop2 .inv .2 l start o) (omega (arith, n, h)) e (p .put-bit .ensures))))
     (λ c. search needs)
