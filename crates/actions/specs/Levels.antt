@@ -33,8 +33,8 @@ concerns line a = leb (a .verb) sampleLine && eqb (a .line) line
 abbrev pub near : ℕ
 near = 30
 
--- WHETHER A LINE SHOWS THE LEVEL SAMPLED NEXT: the first of the actions that concerns it samples it, and no longer wait stands right
--- before that one; so many microseconds were waited right before the first action
+-- WHETHER A LINE SHOWS THE LEVEL SAMPLED NEXT: the first of the actions that concerns it samples it, and the wait right before that
+-- one, if there is one, is not longer; so many microseconds were waited right before the first action
 unfoldable pub sampledNext : ℕ → ℕ → List Action → Bool
 sampledNext line waited [] = false
 sampledNext line waited (a ∷ as′) = cond (concerns line a) (eqb (a .verb) sampleLine && leb waited near) (sampledNext line (waitOf a) as′)

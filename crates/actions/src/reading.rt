@@ -22,7 +22,7 @@ pub struct Action {
 }
 
 // What stands for an action where there is none.
-pub fn none() -> Action
+pub fn no_action() -> Action
     ensures { λ r. ⌜ action (r .verb) (r .line) (r .value) ≡ noAction ⌝ }
 {
     Action {
@@ -37,10 +37,10 @@ pub fn action_at(actions: &[u8], at: usize) -> Action
     ensures { λ r. ⌜ action (r .verb) (r .line) (r .value) ≡ actionAt (now (actions .entry)) at ⌝ }
 {
     if actions.len() < at {
-        return none();
+        return no_action();
     }
     if actions.len() - at < ACTION_BYTES {
-        return none();
+        return no_action();
     }
     Action {
         verb: actions[at],

@@ -11,7 +11,7 @@ use actions::reading::Action;
 use actions::reading::action_at;
 use actions::reading::is_sample;
 use actions::reading::is_wait;
-use actions::reading::none;
+use actions::reading::no_action;
 use actions::reading::wait_of;
 use wire::ACTION_BYTES;
 use wire::LINE_PORT_B;
@@ -180,7 +180,7 @@ fn show_action(
 // An event by its actions.
 pub(crate) fn show_event(d: Dump, actions: &[u8], session: &[u8], text: &mut [u8]) -> Dump {
     let mut e = show_free_lines(d, actions, session);
-    let mut before = none();
+    let mut before = no_action();
     let mut at: usize = 0;
     while ACTION_BYTES <= actions.len() - at {
         let a = action_at(actions, at);

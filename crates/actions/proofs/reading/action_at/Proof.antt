@@ -11,10 +11,10 @@ action-at-spec =
     tie.close
     (tie.spec
     (λ c κs. search needs)
-    (λ c. let a = c .before .before .before .args in c .none .ensures ∙ sym (none-there (a .actions .now) (a .at) (omega arith)))
+    (λ c. let a = c .before .before .before .args in c .no-action .ensures ∙ sym (none-there (a .actions .now) (a .at) (omega arith)))
     (λ c. search needs)
     (λ c κs. search needs)
-    (λ c. let a = c .before .before .before .before .args in c .none2 .ensures ∙ sym (none-there (a .actions .now) (a .at) (omega arith)))
+    (λ c. let a = c .before .before .before .before .args in c .no-action2 .ensures ∙ sym (none-there (a .actions .now) (a .at) (omega arith)))
     (λ c. search needs)
     (λ c. search needs)
     (λ c. search needs)
