@@ -1,15 +1,15 @@
 -- Actions are read four bytes at a time. Assumes nothing.
 use Prim.Native.Nat.{ℕ, _+_, _*_, _/_, _%_, _<_, _≤_}
-use mathlib.Core.Path.{_≡_, refl, ap, _∙_}
+use mathlib.Core.Path.{_≡_, refl}
 use mathlib.Core.List.{List, [], _∷_}
 use native.Mathlib.Omega.{arith}
 use native.Mathlib.Numerals.{add-one}
 use borrow.Author.Tests.{le-leb, lt-leb}
 use lib.ListN.{length, drop, length-drop}
 use lib.Seq.{drop-cons}
-use Rattle.wire.specs.Action.{Action, action, bytesOf}
+use Rattle.wire.specs.Action.{Action, action}
 use Rattle.wire.specs.Sample.{byteAt}
-use Rattle.actions.specs.Reading.{noAction, actionAt, actionsIn, InBits, ReadBack}
+use Rattle.actions.specs.Reading.{noAction, actionAt, actionsIn, ReadBack}
 
 -- THE ACTION AT A PLACE, by the bytes left
 pub none-there : (bytes : List ℕ) (at : ℕ) → length bytes < at + 4 → actionAt bytes at ≡ noAction

@@ -1,5 +1,4 @@
 // An event measured: everything about it but the writing.
-ghost use mathlib.Core.Path.{_≡_};
 ghost use Prim.Native.Nat.{_≤_};
 ghost use lib.ListN.{length};
 ghost use Rattle.registers.specs.Ranges.{InRange};

@@ -1,19 +1,14 @@
 -- The range test says exactly the facts of 01's table. Assumes nothing.
-use Prim.Native.Nat.{ℕ, _+_, _/_, _%_, _≤_}
+use Prim.Native.Nat.{ℕ, _%_, _≤_}
 use mathlib.Core.Path.{_≡_, refl, subst}
 use mathlib.Core.Bool.{Bool, true, _&&_}
 use mathlib.Core.Logic.{_↔_}
-use native.Mathlib.Omega.{arith}
 use borrow.Author.Tests.{lt-ltb, le-leb, eq-eqb, ltb-true, leb-true, eqb-true}
 use lib.Dec.{eqb, leb, ltb}
 use Rattle.codes.proofs.Both.{both-left, both-right}
 use Rattle.packet.specs.Packet.{width, packetBytes}
-use Rattle.registers.specs.Registers.{Page, State, Operand, ToPort, ToCycles, ToI2c, ToConfig, ToSize, ToOneWire, ToOneWireBit, ToOneWireStrong, Wait, Nothing, One, Extended, Packet, Timings, spiSelected, oneWireSelected, bitsOf, bitsIn, timingBytes}
+use Rattle.registers.specs.Registers.{Page, State, Operand, ToPort, ToCycles, ToI2c, ToConfig, ToSize, ToOneWire, ToOneWireBit, ToOneWireStrong, Wait, Nothing, One, Extended, Packet, Timings, spiSelected, oneWireSelected, bitsIn, timingBytes}
 use Rattle.registers.specs.Ranges.{selectedCount, operandFits, waitFits, pageFits, PageInRange, OperandInRange, WaitInRange, InRange, RangeTest}
-
--- ceil(N/8) by the size register
-pub most-left : (size : ℕ) → size / 8 + 1 ≡ packetBytes (bitsOf size)
-most-left size = omega arith
 
 both : {a b : Bool} → a ≡ true → b ≡ true → a && b ≡ true
 both p q = rw (p, q)

@@ -174,7 +174,3 @@ heldWith held at byte = set held at byte
 -- the timings among them: the first nine
 abbrev pub timingsIn : List ℕ → List ℕ
 timingsIn held = take timingBytes held
-
--- a new page, and nothing waited for or held
-abbrev pub settled : State → Page → State
-settled s p = ended (withPage s p)

@@ -1,7 +1,5 @@
 // What the next step of a replay is about.
 ghost use mathlib.Core.Path.{_≡_};
-ghost use Prim.Native.Nat.{_≤_};
-ghost use lib.ListN.{length};
 ghost use Rattle.records.specs.Contents.{contentOf};
 ghost use Rattle.session.specs.Next.{nextBody, nextOf};
 use crate::replay::MOST_SESSION;

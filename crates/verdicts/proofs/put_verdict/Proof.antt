@@ -1,7 +1,6 @@
 -- By the verdict.
 use borrow.Author.Needs.{needs}
 use mathlib.Core.Path.{refl}
-use native.Mathlib.Omega.{arith}
 use Rattle.grammar.specs.declared.Verdict.the-variants.{Whole, Open}
 use Rattle.verdicts.proofs.Lines.{line-written}
 use Rattle.verdicts.proofs.put_verdict.Statement.{statement}
