@@ -1,4 +1,4 @@
--- One register of the page another.
+-- One register of the page is changed.
 use borrow.Author.Needs.{needs}
 use Rattle.changes.proofs.store.Statement.{statement}
 use Rattle.changes.proofs.store.Tie as tie

@@ -1,4 +1,4 @@
--- One register another, with the action that carries it.
+-- One register is changed, with the action that carries it.
 use borrow.Author.Needs.{needs}
 use Rattle.decisions.proofs.extended.set_bit.Statement.{statement}
 use Rattle.decisions.proofs.extended.set_bit.Tie as tie

@@ -1,4 +1,4 @@
--- One register another, with the action that carries it.
+-- One register is changed, with the action that carries it.
 use borrow.Author.Needs.{needs}
 use Rattle.decisions.proofs.operands.write_port.Statement.{statement}
 use Rattle.decisions.proofs.operands.write_port.Tie as tie
