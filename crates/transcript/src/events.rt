@@ -131,7 +131,8 @@ fn run_in_range(
     got_to(state, read, used, written, Outcome::Taken)
 }
 
-// The same from any state, with at most as many events as the budget has.
+// The same from any state, with at most as many events as the budget has. The caller shows that the budget is not 0 and that there is
+// room for any event's output.
 pub fn run_events(
     s: State,
     fault: bool,
