@@ -50,8 +50,10 @@ def configured(command):        # "44, 46, 4B, 4C (H) unconfigured return 40."
 
 def load_packet(t, data):       # "ceil(N/8) bytes, lowest first; the low N bits are kept, the rest zero;
     n = t.state.bits()          # with bit 2 of CONFIG_SPI they move up by 64 - N." "only at the last byte"
-    kept = int.from_bytes(bytes(data), "little") % (1 << n)
-    t.state.packet = kept << 64 - n if t.state.config & 4 else kept
+    t.state.packet = int.from_bytes(bytes(data), "little") % (1 << n)
+    if t.state.config & 4:
+        for _ in range(64 - n):                 # 02, "Ask 3": "as many moves by one bit"
+            t.state.packet <<= 1
 
 def exchange(t):                # "46: SCK to CPOL (bit 1), then N bits, from bit 63 down with bit 2 set,
     s, n, received = t.state, t.state.bits(), 0                                 # else from bit 0 up."

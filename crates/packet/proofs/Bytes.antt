@@ -12,7 +12,7 @@ use denote.Laws.{Is}
 use denote.Plain.{UInt}
 use denote.Array.{Array, each}
 use lib.ListN.{length, getD, take, drop, length-drop, take-append-drop, drop-of-length-le}
-use lib.Pow.{mod-pow-add}
+use lib.Pow.{mod-pow-add, high, low}
 use lib.Seq.{length-take-le, drop-cons}
 use Rattle.packet.specs.Register.{byteBits, bits, number, register, zeros}
 
@@ -30,7 +30,7 @@ bits-drop zero xs h = h
 bits-drop (suc n) [] h = tt
 bits-drop (suc n) (x ∷ xs) h = bits-drop n xs (h .1)
 
-bits-take : (n : ℕ) (xs : List ℕ) → Bits xs → Bits (take n xs)
+pub bits-take : (n : ℕ) (xs : List ℕ) → Bits xs → Bits (take n xs)
 bits-take zero xs h = tt
 bits-take (suc n) [] h = tt
 bits-take (suc n) (x ∷ xs) h = (h .0, bits-take n xs (h .1))
@@ -86,6 +86,24 @@ number-weight v (b ∷ bs) =
     let weight : v * 2 ^ suc (length bs) ≡ v * (2 * w) = ap (λ (x : ℕ). v * x) (pow-succ' 2 (length bs)) in
     omega (arith, number-weight (v * 2 + b) bs, number-weight (0 * 2 + b) bs)
 
+number-append : (v : ℕ) (xs ys : List ℕ) → number v (xs ++ ys) ≡ number (number v xs) ys
+unfolding number
+number-append v [] ys = refl
+number-append v (x ∷ xs) ys = number-append (v * 2 + x) xs ys
+
+number-below : (bs : List ℕ) → Bits bs → number 0 bs < 2 ^ length bs
+unfolding number
+number-below [] s = omega arith
+number-below (zero ∷ bs) s = omega (arith, pow-succ' 2 (length bs), number-below bs (s .1))
+number-below (suc zero ∷ bs) s = omega (arith, pow-succ' 2 (length bs), number-weight 1 bs, number-below bs (s .1))
+number-below (suc (suc b) ∷ bs) s = absurd (omega (arith, s .0))
+
+-- the bits above a place, and those below it
+pub number-parts : (xs ys : List ℕ) → Bits ys → (number 0 (xs ++ ys) / 2 ^ length ys ≡ number 0 xs) × (number 0 (xs ++ ys) % 2 ^ length ys ≡ number 0 ys)
+number-parts xs ys s =
+    let e : number 0 (xs ++ ys) ≡ number 0 xs * 2 ^ length ys + number 0 ys = number-append 0 xs ys ∙ number-weight (number 0 xs) ys in
+    rw e (high (number 0 xs) (length ys) (number-below ys s), low (number 0 xs) (length ys) (number-below ys s))
+
 low-number : (b m : ℕ) → m ≤ 8 → number 0 (drop (8 - m) (byteBits b)) ≡ b % 2 ^ m
 unfolding byteBits number
 low-number b zero h = sym (mod-one b)
@@ -116,6 +134,14 @@ number-low b d = go (decLe d 8)
 
 pub number-bits : (x : ℕ) → x < 256 → number 0 (byteBits x) ≡ x
 number-bits x h = number-low x 0 ∙ mod-eq-of-lt h
+
+pub number-pair : (a b : ℕ) → a < 256 → b < 256 → number 0 (bits (a ∷ b ∷ [])) ≡ a * 256 + b
+unfolding bits byteBits
+number-pair a b h k =
+    number-append 0 (byteBits a) (byteBits b)
+    ∙ number-weight (number 0 (byteBits a)) (byteBits b)
+    ∙ ap (λ (x : ℕ). x * 256 + number 0 (byteBits b)) (number-bits a h)
+    ∙ ap (λ (x : ℕ). a * 256 + x) (number-bits b k)
 
 -- a value of the type [u8; n] is the register of its own bits
 register-each : (xs : List ℕ) (us : List Val) → shadow (each ℕ (UInt w8 .own) xs us) → register (length xs) (bits xs) ≡ xs

@@ -15,7 +15,7 @@ use Rattle.packet.proofs.Bytes.{length-byte, length-register, number-lo
 
 -- A BYTE OF A REGISTER
 
-register-at : (k j : ℕ) (bs : List ℕ) → j < k → getD (register k bs) j 0 ≡ number 0 (take 8 (drop (8 * j) bs))
+pub register-at : (k j : ℕ) (bs : List ℕ) → j < k → getD (register k bs) j 0 ≡ number 0 (take 8 (drop (8 * j) bs))
 unfolding register
 register-at zero j bs h = absurd (not-suc-le-zero h)
 register-at (suc k) zero bs h = refl
@@ -40,7 +40,7 @@ number-padded (suc n) (suc s) xs = rw suc-sub-suc (number-padded n s xs)
 padded-byte : (k s j : ℕ) (xs : List ℕ) → j < k → getD (register k (zeros s ++ xs)) j 0 ≡ number 0 (take (8 - (s - 8 * j)) (drop (8 * j - s) xs))
 padded-byte k s j xs h = register-at k j (zeros s ++ xs) h ∙ rw (drop-padded (8 * j) s xs) (number-padded 8 (s - 8 * j) (drop (8 * j - s) xs))
 
-drop-take : (f m : ℕ) (l : List ℕ) → drop f (take (f + m) l) ≡ take m (drop f l)
+pub drop-take : (f m : ℕ) (l : List ℕ) → drop f (take (f + m) l) ≡ take m (drop f l)
 drop-take zero m l = rw zero-add
 drop-take (suc f) m [] = rw (take-nil (suc f + m)) (sym (take-nil m))
 drop-take (suc f) m (x ∷ l) = let e : suc f + m ≡ suc (f + m) = omega arith in rw e (drop-take f m l)
@@ -52,7 +52,7 @@ padded-slice k s j xs h =
 
 -- CLEARING
 
-drop-bytes : (j : ℕ) (r : List ℕ) → drop (8 * j) (bits r) ≡ bits (drop j r)
+pub drop-bytes : (j : ℕ) (r : List ℕ) → drop (8 * j) (bits r) ≡ bits (drop j r)
 unfolding bits
 drop-bytes zero r = refl
 drop-bytes (suc j) [] = drop-nil (8 * suc j)
@@ -101,7 +101,7 @@ received-at k n j first end high rs l h f e = rw (l, f, e) (sym (padded-slice k 
 pub fill-start : (k : ℕ) (q bs : List ℕ) → length q ≡ k → drop k q ≡ drop k (register k bs)
 fill-start k q bs e = drop-of-length-le q {i = k} (omega arith) ∙ sym (drop-of-length-le (register k bs) {i = k} (omega (arith, length-register k bs)))
 
-pub drop-set : (l : List ℕ) (i v : ℕ) → i < length l → drop i (set l i v) ≡ v ∷ drop (suc i) l
+drop-set : (l : List ℕ) (i v : ℕ) → i < length l → drop i (set l i v) ≡ v ∷ drop (suc i) l
 drop-set l i v h =
     drop-cons (set l i v) i 0 (rw length-set h) ∙ rw (getD-set-same l i v 0 h, drop-set-lt (suc i) l i v (le-refl (suc i)))
 

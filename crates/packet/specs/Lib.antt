@@ -1,3 +1,4 @@
 pub mod Register
 pub mod Packet
+pub mod Alignment
 pub mod Shift

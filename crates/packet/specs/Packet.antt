@@ -53,10 +53,6 @@ aligned w n high r = cond high (register (w / 8) (movedUp (w - n) (bits r))) r
 abbrev pub loaded : ℕ → ℕ → Bool → List ℕ → List ℕ
 loaded w n high held = aligned w n high (cleared w n (fromHeld (w / 8) held))
 
--- the register of k bytes with a bit that comes in at the lowest place and moves the others up
-abbrev pub takenIn : ℕ → ℕ → List ℕ → List ℕ
-takenIn k bit r = register k (drop 1 (bits r ++ (bit ∷ [])))
-
 -- EXCHANGING (46)
 
 -- the order on the wire: "from bit 63 down with bit 2 set, else from bit 0 up"

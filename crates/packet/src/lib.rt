@@ -3,10 +3,10 @@
 ghost use mathlib.Core.Path.{_≡_};
 ghost use mathlib.Core.Bool.{true, cond};
 ghost use Prim.Native.Nat.{_+_, _-_, _/_, _%_, _^_, _<_, _≤_, min};
-ghost use mathlib.Core.List.{[], _∷_, _++_};
-ghost use lib.ListN.{drop, getD, length};
+ghost use mathlib.Core.List.{[], _∷_};
+ghost use lib.ListN.{getD, length};
 ghost use Rattle.packet.specs.Register.{bits};
-ghost use Rattle.packet.specs.Packet.{width, registerBytes, sizeRegister, sizeOf, packetBytes, fromHeld, cleared, aligned, loaded, sentAt, takenIn, lowBytes};
+ghost use Rattle.packet.specs.Packet.{width, registerBytes, sizeRegister, sizeOf, packetBytes, fromHeld, cleared, aligned, loaded, sentAt, lowBytes};
 ghost use Rattle.wire.specs.Buffer.{Written};
 
 // The register's size in bits: the one place of this number in the code.
@@ -49,16 +49,6 @@ pub fn above_byte(n: u8) -> u8
     n - 8
 }
 
-// How many of the register's bits stand above the low n.
-fn spare(n: u8) -> u8
-    ensures { λ r. ⌜ r ≡ width - n ⌝ }
-{
-    if n < WIDTH {
-        return WIDTH - n;
-    }
-    0
-}
-
 // The register whose lowest byte is the first one held, and so on upward; 0 where none is held.
 pub fn load(held: &[u8]) -> Register
     ensures { λ q. ⌜ q ≡ fromHeld registerBytes (now (held .entry)) ⌝ }
@@ -71,31 +61,6 @@ pub fn load(held: &[u8]) -> Register
         i += 1;
     }
     q
-}
-
-// The register moved up by one place, with a bit coming in at the lowest.
-fn move_up(r: Register, bit: u8) -> Register
-    requires { ⌜ bit < 2 ⌝ }
-    ensures { λ q. ⌜ bits q ≡ drop 1 (bits r ++ (bit ∷ [])) ⌝ }
-{
-    let mut q = r;
-    let mut i: usize = BYTES;
-    let mut carry = bit;
-    while 0 < i {
-        i -= 1;
-        let b = q[i];
-        q[i] = b % 128 * 2 + carry;
-        carry = b / 128 % 2;
-    }
-    q
-}
-
-// The register with a bit taken in at its lowest place, the others moved up.
-fn take_in(r: Register, bit: u8) -> Register
-    requires { ⌜ bit < 2 ⌝ }
-    ensures { λ q. ⌜ q ≡ takenIn registerBytes bit r ⌝ }
-{
-    move_up(r, bit)
 }
 
 // The bit at a place counted from the highest.
@@ -134,16 +99,25 @@ pub fn clear(r: Register, n: u8) -> Register
     q
 }
 
-// The register moved up, one place at a time, until its low n bits stand highest.
+// The register moved up, by whole bytes and one remainder under eight bits, until its low n bits stand highest.
 fn raise(r: Register, n: u8) -> Register
     ensures { λ q. ⌜ q ≡ aligned width n true r ⌝ }
 {
-    let mut q = r;
-    let mut left = spare(n);
-    while 0 < left {
-        left -= 1;
-        let t = take_in(q, 0);
-        q = t;
+    if WIDTH <= n {
+        return r;
+    }
+    let up = WIDTH - n;
+    let whole = (up / 8) as usize;
+    let rest = up % 8;
+    let mut q = [0u8; BYTES];
+    let mut i: usize = BYTES;
+    let mut lower: u8 = 0;
+    while 0 < i {
+        i -= 1;
+        let upper = wire::byte_at(&r, i + whole);
+        let pair = upper as u16 * 256 + lower as u16;
+        q[i] = ((pair >> (8 - rest)) % 256) as u8;
+        lower = upper;
     }
     q
 }

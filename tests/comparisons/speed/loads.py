@@ -1,5 +1,5 @@
 #!/usr/bin/env python3
-"""Five sessions near 32,768 bytes, one for each load whose speed is compared: python3 loads.py FOLDER."""
+"""Sessions near 32,768 bytes, one for each load whose speed is measured: python3 loads.py FOLDER."""
 import pathlib
 import sys
 
@@ -13,6 +13,10 @@ LOADS = {
     "i2c-writes": ("01 07", "22 5A", 1),
     "exchanges": ("02 07 40 05 42 00", "4C 01 23 45 67 89 AB CD EF", 64),
     "registers": ("03 07", "0C 13 FF 14 1A 04 06 65 10 20 30 40 50 60 70 80 90 66", 0),
+    # packets loaded high bit first, N 1, 12 and 64
+    "packets-1": ("02 07 40 04 42 01", "44 01", 0),
+    "packets-12": ("02 07 40 04 42 0C", "44 34 12", 0),
+    "packets-64": ("02 07 40 04 42 00", "44 01 23 45 67 89 AB CD EF", 0),
 }
 
 def load(before, turn, need):

@@ -88,11 +88,15 @@ pub fn packet_byte(state: &mut State, byte: u8, left: u8, exchange: bool, lines:
 }
 
 /// "lowest first; the low N bits are kept, the rest zero; with bit 2 of CONFIG_SPI they move up by
-/// 64 - N"
+/// 64 - N", which is, by request 3, "what as many moves by one bit give".
 pub fn align(bytes: [u8; 8], bits: u32, high_first: bool) -> [u8; 8] {
-    let kept = u64::from_le_bytes(bytes) & u64::MAX >> (64 - bits);
-    let moved = if high_first { kept << (64 - bits) } else { kept };
-    moved.to_be_bytes()
+    let mut packet = u64::from_le_bytes(bytes) & u64::MAX >> (64 - bits);
+    if high_first {
+        for _ in bits..64 {
+            packet <<= 1;
+        }
+    }
+    packet.to_be_bytes()
 }
 
 fn start_exchange(state: &mut State, lines: &mut Lines) {
