@@ -20,8 +20,9 @@ movesByOne k (suc m) r = bitsUp k 1 (movesByOne k m r)
 abbrev pub bytesAndRest : ℕ → ℕ → List ℕ → List ℕ
 bytesAndRest k m r = bitsUp k (m % 8) (movedUp (m / 8) r)
 
--- THEOREM (proofs/Moves.antt, `alignment-right`): "this gives what as many moves by one bit give", of any register of w bits; and it
--- is what 01 has the packet register hold
+-- THEOREM (proofs/Moves.antt, `alignment-right`): "this gives what as many moves by one bit give", and it is what 01 has the packet
+-- register hold
 pub record Alignment (w n : ℕ) (r : List ℕ) : Type 0 where
+  -- where r is a register of w bits, the one that has its own bits
   pub same : register (w / 8) (bits r) ≡ r → bytesAndRest (w / 8) (w - n) r ≡ movesByOne (w / 8) (w - n) r
   pub aligns : bytesAndRest (w / 8) (w - n) r ≡ aligned w n true r

@@ -99,7 +99,8 @@ pub fn clear(r: Register, n: u8) -> Register
     q
 }
 
-// The register moved up, by whole bytes and one remainder under eight bits, until its low n bits stand highest.
+// The register moved up, by whole bytes and one remainder under eight bits, until its low n bits stand highest: each byte takes its
+// bits from two bytes in a row. At the full width nothing moves.
 fn raise(r: Register, n: u8) -> Register
     ensures { λ q. ⌜ q ≡ aligned width n true r ⌝ }
 {
