@@ -1,4 +1,4 @@
-"""A model of the bridge, written from 01 alone: the state, an event's turn, and the common and extended commands.
+"""A model of the bridge, written from 01 and 02 alone: the state, an event's turn, and the common and extended commands.
 
 It shares no line with the definitions. Text in quotes in the comments is from 01.
 """

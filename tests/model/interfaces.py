@@ -1,4 +1,7 @@
-"""The model's I2C, SPI and 1-Wire commands, and one event. Text in quotes in the comments is from 01."""
+"""The model's I2C, SPI and 1-Wire commands, and one event.
+
+Text in quotes in the comments is from 01, or from 02 where a request is named.
+"""
 from model.common import (COMMON, EXTENDED, I2C, ONE_WIRE, SEEN, SPI, WAIT_MS, WAIT_US, Refused, State, Turn, awaits, done, just,
                           lines, read_line, sends)
 
@@ -52,7 +55,7 @@ def load_packet(t, data):       # "ceil(N/8) bytes, lowest first; the low N bits
     n = t.state.bits()          # with bit 2 of CONFIG_SPI they move up by 64 - N." "only at the last byte"
     t.state.packet = int.from_bytes(bytes(data), "little") % (1 << n)
     if t.state.config & 4:
-        for _ in range(64 - n):                 # 02, "Ask 3": "as many moves by one bit"
+        for _ in range(64 - n):                 # request 3: "what as many moves by one bit give"
             t.state.packet <<= 1
 
 def exchange(t):                # "46: SCK to CPOL (bit 1), then N bits, from bit 63 down with bit 2 set,
