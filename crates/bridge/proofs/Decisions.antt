@@ -6,7 +6,8 @@ use mathlib.Core.List.{List, [], _∷_}
 use lib.Dec.{eqb}
 use Rattle.codes.proofs.Lookup.{either}
 use Rattle.grammar.specs.Grammar.{Needs, Operands, legal, count}
-use Rattle.grammar.specs.Scanner.{Opening, codeFor, going, opened}
+use Rattle.grammar.specs.WrongCode.{codeFor}
+use Rattle.grammar.specs.Scanner.{Opening, going, opened}
 use Rattle.grammar.specs.declared.ContextChange.{ContextChange}
 use Rattle.grammar.specs.declared.Scanned.{Scanned}
 use Rattle.grammar.specs.declared.Scanned.the-variants as g
@@ -77,18 +78,18 @@ module _ (s : State) where
     rejected-row c w q = subst (λ (l : Legality). DecisionAgrees s (g.Rejected w) (commandDecided s c l)) (sym q) (rejects-code c w)
 
 -- a flag and the interface that it selects
-pub selected-matches : {t u : Bool} → t ≡ u → cond (not t) (Rejected 0x80) Legal ≡ cond u Legal (Rejected 0x80)
-selected-matches {t} {u} q = subst (λ (z : Bool). cond (not t) (Rejected 0x80) Legal ≡ cond z Legal (Rejected 0x80)) q (go t)
+pub selected-matches : {t u : Bool} → t ≡ u → cond (not t) (Rejected 0x84) Legal ≡ cond u Legal (Rejected 0x84)
+selected-matches {t} {u} q = subst (λ (z : Bool). cond (not t) (Rejected 0x84) Legal ≡ cond z Legal (Rejected 0x84)) q (go t)
   where
-    go : (t : Bool) → cond (not t) (Rejected 0x80) Legal ≡ cond t Legal (Rejected 0x80)
+    go : (t : Bool) → cond (not t) (Rejected 0x84) Legal ≡ cond t Legal (Rejected 0x84)
     go true = refl
     go false = refl
 
--- .. with a configuration needed: 40 where it is selected and not configured, 80 where it is not selected
-pub configured-matches : {t u : Bool} (y : Bool) → t ≡ u → cond (not t) (Rejected 0x80) (cond (not y) (Rejected 0x40) Legal) ≡ cond (u && y) Legal (Rejected (cond u 0x40 0x80))
-configured-matches {t} {u} y q = subst (λ (z : Bool). cond (not t) (Rejected 0x80) (cond (not y) (Rejected 0x40) Legal) ≡ cond (z && y) Legal (Rejected (cond z 0x40 0x80))) q (go t y)
+-- .. with a configuration needed: 40 where it is selected and not configured, 84 where it is not selected
+pub configured-matches : {t u : Bool} (y : Bool) → t ≡ u → cond (not t) (Rejected 0x84) (cond (not y) (Rejected 0x40) Legal) ≡ cond (u && y) Legal (Rejected (cond u 0x40 0x84))
+configured-matches {t} {u} y q = subst (λ (z : Bool). cond (not t) (Rejected 0x84) (cond (not y) (Rejected 0x40) Legal) ≡ cond (z && y) Legal (Rejected (cond z 0x40 0x84))) q (go t y)
   where
-    go : (t y : Bool) → cond (not t) (Rejected 0x80) (cond (not y) (Rejected 0x40) Legal) ≡ cond (t && y) Legal (Rejected (cond t 0x40 0x80))
+    go : (t y : Bool) → cond (not t) (Rejected 0x84) (cond (not y) (Rejected 0x40) Legal) ≡ cond (t && y) Legal (Rejected (cond t 0x40 0x84))
     go true true = refl
     go true false = refl
     go false y = refl

@@ -2,6 +2,7 @@
 use Prim.Native.Nat.{ℕ}
 use mathlib.Core.Path.{_≡_, refl, sym, ap, subst}
 use mathlib.Core.Bool.{true, false, false≢true}
+use mathlib.Core.List.{List}
 use native.Mathlib.Omega.{arith}
 use Rattle.registers.specs.Ranges.{InRange}
 use Rattle.registers.specs.declared.Wait.{Wait}
@@ -14,9 +15,15 @@ use Rattle.grammar.specs.declared.Place.the-variants.{Between}
 use Rattle.grammar.specs.declared.Scanner.{Scanner}
 use Rattle.grammar.proofs.Demand3 as grammar
 use Rattle.grammar.proofs.Leads.{leads}
+use Rattle.grammar.proofs.Verdicts.{first-is-smallest}
+use Rattle.grammar.specs.Machines.{FirstRejected, ReturnedAt}
+use Rattle.grammar.specs.declared.Verdict.the-variants.{Wrong}
 use Rattle.grammar.proofs.Follows.{Agree, Follows}
 use Rattle.bridge.specs.Answering.{Bridge, Lent, Given, effect, accepted, answerOf}
-use Rattle.bridge.specs.Demands.{isRefused, machine, Demand3, ContextFollowed}
+use Rattle.bridge.specs.Demands.{isRefused, machine, bytesTaken, codesTold, Demand3, CodeForetold, ContextFollowed}
+use Rattle.bridge.specs.Judging.{Judged, judgementOf}
+use Rattle.bridge.specs.Views.{contextOf}
+use Rattle.bridge.proofs.Judges.{judge-call}
 use Rattle.bridge.proofs.View.{placeOf, viewOf}
 use Rattle.bridge.proofs.Agrees.{byte-agrees}
 use Rattle.bridge.proofs.StepOutcomes.{Went, refused-for, was-accepted, went}
@@ -58,6 +65,22 @@ follows = record {
 
 pub demand-3 : Demand3
 demand-3 = grammar.demand-3 machine view follows
+
+pub code-foretold : CodeForetold
+code-foretold b n i ks k w = (told, foretold)
+  where
+    bs : List ℕ
+    bs = bytesTaken b ks
+
+    told : judgementOf b bs ≡ Judged (Wrong k w) → FirstRejected (codesTold b ks) k × ReturnedAt (codesTold b ks) k w
+    told e =
+        let s = judge-call b bs .judged (Wrong k w) .0 e in
+        demand-3 b n i ks .first-code k w .1 (first-is-smallest (contextOf (b .state)) bs k .1 (s .2 .0), s .2 .1)
+
+    foretold : FirstRejected (codesTold b ks) k × ReturnedAt (codesTold b ks) k w → judgementOf b bs ≡ Judged (Wrong k w)
+    foretold f =
+        let g = demand-3 b n i ks .first-code k w .0 f in
+        judge-call b bs .judged (Wrong k w) .1 (n, i, (first-is-smallest (contextOf (b .state)) bs k .0 (g .0), g .1))
 
 pub context-followed : ContextFollowed
 context-followed = leads machine view follows

@@ -24,11 +24,13 @@ use Rattle.decisions.specs.Effects.{sentBy}
 use Rattle.grammar.specs.Machines.{Machine, Call}
 use Rattle.grammar.specs.Machines as grammar
 use Rattle.grammar.specs.Following.{Leads}
+use Rattle.grammar.specs.declared.Verdict.the-variants.{Wrong}
 use Rattle.refusals.specs.Refusals.{numberOf}
 use Rattle.refusals.specs.declared.Refusal.{Refusal}
 use Rattle.refusals.specs.declared.Refusal.the-variants.{Ranges, Samples, Actions, Replies, Header, Length, Passes, Kind, FaultBody, Size, Factory, Waits}
 use Rattle.bridge.specs.Answering.{Bridge, Outcome, Taken, Refused, Lent, effect, refused, accepted, answerOf}
 use Rattle.bridge.specs.Views.{contextOf}
+use Rattle.bridge.specs.Judging.{Judged, judgementOf}
 
 abbrev pub outcome : Bridge → Event → Lent → Outcome
 outcome b e l = (answerOf b e l) .answer .outcome
@@ -77,7 +79,7 @@ abbrev pub filled : List ℕ → ℕ → List ℕ → List ℕ
 filled bytes mark xs = take mark bytes ++ xs ++ drop (mark + length xs) bytes
 
 -- "A rejected byte changes the error register, nothing else of the state, and moves no pin." ERROR then holds the one code that it
--- returned, 80 or 40.
+-- returned: "a rejected byte now returns one of the three" (02, Ask 1), 80, 84 or 40.
 pub record OnlyErrorChanged (b : Bridge) (e : Event) (l : Lent) : Type 0 where
   pub code : ℕ
   pub returned : (answerOf b e l) .answer .codes ≡ code ∷ []
@@ -129,6 +131,19 @@ machine = record {
 -- "A start between commands breaks no range and waits for nothing."
 abbrev pub Demand3 : Type 0
 Demand3 = (b : Bridge) → InRange (b .state) → b .state .wait ≡ v.Nothing → (ks : List (Call machine)) → grammar.Demand3 machine b ks
+
+-- THEOREM (proofs/Demand3.antt, `code-foretold`): over the same lists, the judge's call says that the bytes taken are wrong at k with the
+-- code w exactly if the first rejected call is the one that handed over byte k, and w is the code that it returned; "The judge's wrong
+-- verdict also carries the code the bridge would return there: 80, 84 or 40" (02, Ask 1)
+abbrev pub bytesTaken : Bridge → List (Call machine) → List ℕ
+bytesTaken b ks = grammar.bytes machine (grammar.notRefused machine b ks)
+
+abbrev pub codesTold : Bridge → List (Call machine) → List (List ℕ)
+codesTold b ks = grammar.told machine (grammar.notRefused machine b ks)
+
+abbrev pub CodeForetold : Type 0
+CodeForetold = (b : Bridge) → InRange (b .state) → b .state .wait ≡ v.Nothing → (ks : List (Call machine)) (k w : ℕ)
+    → (judgementOf b (bytesTaken b ks) ≡ Judged (Wrong k w)) ↔ (grammar.FirstRejected (codesTold b ks) k × grammar.ReturnedAt (codesTold b ks) k w)
 
 -- THEOREM (proofs/Demand3.antt, `context-followed`): after any such list the context is where the grammar leads by the bytes taken
 -- alone, rejected ones among them; so a writer of command streams can count a packet's bytes without a bridge

@@ -1,4 +1,5 @@
--- The judge's call (01, "Grammar"): "The judge takes a start state and bytes." Refusals 1 and 12, then the grammar's verdict.
+-- The judge's call (01, "Grammar"): "The judge takes a start state and bytes." Refusals 1 and 12, then the grammar's verdict. That a wrong
+-- one carries the code which the bridge returns there is a theorem of Demands.antt, `CodeForetold`.
 use Prim.Native.Nat.{ℕ}
 use mathlib.Core.Path.{_≡_}
 use mathlib.Core.Bool.{Bool, true, false, cond}

@@ -1,5 +1,6 @@
 -- Device codes (01, "Refusal numbers"): "Device codes are not refusals: 00 none, 20 no I2C acknowledge, 40 no SPI configuration, 60
--- no presence, 80 unknown command, 81 frame, 82 overrun, 83 parity".
+-- no presence, 80 unknown command, 81 frame, 82 overrun, 83 parity"; and 02's "new device code 84" (Ask 1, "Wrong interface is not
+-- unknown").
 use Prim.Native.Nat.{ℕ}
 use Prim.Native.String.{String}
 use mathlib.Core.Bool.{Bool, true, false, _||_}
@@ -31,6 +32,9 @@ overrun = 0x82
 abbrev pub parity : ℕ
 parity = 0x83
 
+abbrev pub wrongInterface : ℕ
+wrongInterface = 0x84
+
 -- THE TABLE: each code's words, and whether it rejects the byte that returned it
 pub record Meaning : Type 0 where
   pub words : String
@@ -55,6 +59,7 @@ codeTable =
     ∷ frame is means "frame" passes
     ∷ overrun is means "overrun" passes
     ∷ parity is means "parity" passes
+    ∷ wrongInterface is means "wrong interface" rejects
     ∷ []
 
 -- of a number that is no code, no words
@@ -64,7 +69,7 @@ meaningOf k = lookup (means "" passes) k codeTable
 abbrev pub rejecting : ℕ → Bool
 rejecting k = meaningOf k .rejects
 
--- REJECTED (01, "Registers and common commands"): "one that returns 80, or 40", by the codes that a byte returned
+-- REJECTED (01, "Registers and common commands"): "one that returns 80, or 40", or 84 (02, Ask 1), by the codes that a byte returned
 abbrev pub anyRejecting : List ℕ → Bool
 anyRejecting [] = false
 anyRejecting (k ∷ ks) = rejecting k || anyRejecting ks

@@ -18,6 +18,8 @@ pub const OVERRUN: u8 = 0x82;
 
 pub const PARITY: u8 = 0x83;
 
+pub const WRONG_INTERFACE: u8 = 0x84;
+
 // The width of a code's words, padded with blanks.
 pub const WORDS_WIDTH: usize = 20;
 
@@ -34,6 +36,7 @@ pub fn words(code: u8) -> [u8; WORDS_WIDTH]
         FRAME => *b"frame               ",
         OVERRUN => *b"overrun             ",
         PARITY => *b"parity              ",
+        WRONG_INTERFACE => *b"wrong interface     ",
         _ => [b' '; WORDS_WIDTH],
     }
 }

@@ -2,6 +2,7 @@
 -- command. What a rejected command then decides stands in decisions/specs/Rejections.antt.
 use Prim.Native.Nat.{ℕ}
 use mathlib.Core.Bool.{Bool, true, false, not, cond, _&&_}
+use Rattle.codes.specs.Codes.{noConfiguration, unknownCommand, wrongInterface}
 use Rattle.registers.specs.Registers.{i2cSelected, spiSelected, oneWireSelected}
 use Rattle.commands.specs.Commands.{Command}
 use Rattle.commands.specs.declared.Command.the-variants as k
@@ -10,7 +11,16 @@ use Rattle.commands.specs.declared.SpiCommand.the-variants as p
 pub use Rattle.commands.specs.declared.Legality.{Legality}
 pub use Rattle.commands.specs.declared.Legality.the-variants.{Legal, Rejected}
 
--- a common command, or one of the interface that is selected; "any other byte" is neither
+-- a command that 01 lists, after 1D or not; "any other byte" is none
+abbrev pub isListed : Command → Bool
+isListed (k.Common c) = true
+isListed (k.Extended c) = true
+isListed (k.I2c c) = true
+isListed (k.Spi c) = true
+isListed (k.OneWire c) = true
+isListed k.Unknown = false
+
+-- a common command, or one of the interface that is selected
 abbrev pub isSelected : ℕ → Command → Bool
 isSelected flags (k.Common c) = true
 isSelected flags (k.Extended c) = true
@@ -41,8 +51,10 @@ needsConfiguration (k.Spi c) = spiNeedsConfiguration c
 needsConfiguration (k.OneWire c) = false
 needsConfiguration k.Unknown = false
 
--- "An interface command without its interface selected, and any other byte: 80"; unconfigured, 40
+-- "any other byte: 80"; "A command that 01 lists for an interface not selected returns the new device code 84" (02, Ask 1);
+-- unconfigured, 40
 abbrev pub legalityOf : ℕ → Bool → Command → Legality
 legalityOf flags configured c =
-    cond (not (isSelected flags c)) (Rejected 0x80)
-    (cond (needsConfiguration c && not configured) (Rejected 0x40) Legal)
+    cond (not (isListed c)) (Rejected unknownCommand)
+    (cond (not (isSelected flags c)) (Rejected wrongInterface)
+    (cond (needsConfiguration c && not configured) (Rejected noConfiguration) Legal))

@@ -1,12 +1,26 @@
 // Whether a command is legal in a state: the one place that says so.
 ghost use mathlib.Core.Path.{_≡_};
-ghost use Rattle.commands.specs.Legality.{isSelected, needsConfiguration, spiNeedsConfiguration, legalityOf};
+ghost use Rattle.commands.specs.Legality.{isListed, isSelected, needsConfiguration, spiNeedsConfiguration, legalityOf};
 use crate::Command;
 use crate::Legality;
 use crate::SpiCommand;
 use registers::parts::i2c_selected;
 use registers::parts::one_wire_selected;
 use registers::parts::spi_selected;
+
+// Whether it is a command at all.
+fn is_listed(c: Command) -> bool
+    ensures { λ r. ⌜ r ≡ isListed c ⌝ }
+{
+    match c {
+        Command::Common(_) => true,
+        Command::Extended(_) => true,
+        Command::I2c(_) => true,
+        Command::Spi(_) => true,
+        Command::OneWire(_) => true,
+        Command::Unknown => false,
+    }
+}
 
 // Whether a command is common, or of the interface that is selected; what is no command is neither.
 pub fn is_selected(flags: u8, c: Command) -> bool
@@ -59,8 +73,11 @@ fn needs_configuration(c: Command) -> bool
 pub fn legality_of(flags: u8, configured: bool, c: Command) -> Legality
     ensures { λ r. ⌜ r ≡ legalityOf flags configured c ⌝ }
 {
-    if !is_selected(flags, c) {
+    if !is_listed(c) {
         return Legality::Rejected(codes::UNKNOWN_COMMAND);
+    }
+    if !is_selected(flags, c) {
+        return Legality::Rejected(codes::WRONG_INTERFACE);
     }
     if needs_configuration(c) & !configured {
         return Legality::Rejected(codes::NO_CONFIGURATION);

@@ -10,6 +10,7 @@ use crate::Decision;
 use crate::common;
 use crate::extended;
 use crate::i2c;
+use crate::kinds::returning;
 use crate::kinds::sending;
 use crate::one_wire;
 use crate::operands;
@@ -45,6 +46,10 @@ fn command(s: State, extended: bool, b: u8) -> Decision
     ensures { λ r. ⌜ r ≡ commandDecision s (commandOf extended b) ⌝ }
 {
     let c = command_of(extended, b);
+    // asked before legality, which rejects it on every page, since three codes at one return cost each legal command instructions
+    if let Command::Unknown = c {
+        return returning(codes::UNKNOWN_COMMAND);
+    }
     let l = legality_of(s.page.flags, s.page.configured, c);
     if let Legality::Rejected(code) = l {
         return rejected(c, code);

@@ -102,31 +102,38 @@ stepAsked state l (a.Refused why) = stepRefused (withoutEvent (stateIn state) wh
 unfoldable pub stepGives : List ℕ → ℕ → ℕ → Lent → StepCall
 stepGives state kind value l = cond (isState state) (stepAsked state l (eventAsked kind value)) (stepRefused (numberOf Ranges) state l)
 
--- BRIDGE_JUDGE: "the verdict, and with BRIDGE_WRONG the place", else 0 there; refused, both stay
+-- BRIDGE_JUDGE: "the verdict, and with BRIDGE_WRONG the place and the code", else 0 there; refused, all three stay
 pub record JudgeAnswer : Type 0 where
   pub number : ℕ
   pub verdict : ℕ
   pub place : ℕ
+  pub code : ℕ
 
-abbrev pub judgeAnswer : ℕ → ℕ → ℕ → JudgeAnswer
-judgeAnswer n verdict place = record { number = n; verdict = verdict; place = place }
+abbrev pub judgeAnswer : ℕ → ℕ → ℕ → ℕ → JudgeAnswer
+judgeAnswer n verdict place code = record { number = n; verdict = verdict; place = place; code = code }
 
 abbrev pub verdictNumber : Verdict → ℕ
 verdictNumber v.Whole = 0
 verdictNumber v.Open = 1
-verdictNumber (v.Wrong k) = 2
+verdictNumber (v.Wrong k w) = 2
 
 abbrev pub placeOf : Verdict → ℕ
 placeOf v.Whole = 0
 placeOf v.Open = 0
-placeOf (v.Wrong k) = k
+placeOf (v.Wrong k w) = k
 
-abbrev pub judgeAnswered : ℕ → ℕ → Judgement → JudgeAnswer
-judgeAnswered verdict place (j.Judged w) = judgeAnswer 0 (verdictNumber w) (placeOf w)
-judgeAnswered verdict place (j.Refused why) = judgeAnswer (numberOf why) verdict place
+abbrev pub codeIn : Verdict → ℕ
+codeIn v.Whole = 0
+codeIn v.Open = 0
+codeIn (v.Wrong k w) = w
 
-unfoldable pub judgeGives : List ℕ → List ℕ → ℕ → ℕ → JudgeAnswer
-judgeGives state bytes verdict place = cond (isState state) (judgeAnswered verdict place (judgementOf (bridgeIn state) bytes)) (judgeAnswer (numberOf Ranges) verdict place)
+abbrev pub judgeAnswered : ℕ → ℕ → ℕ → Judgement → JudgeAnswer
+judgeAnswered verdict place code (j.Judged w) = judgeAnswer 0 (verdictNumber w) (placeOf w) (codeIn w)
+judgeAnswered verdict place code (j.Refused why) = judgeAnswer (numberOf why) verdict place code
+
+unfoldable pub judgeGives : List ℕ → List ℕ → ℕ → ℕ → ℕ → JudgeAnswer
+judgeGives state bytes verdict place code =
+    cond (isState state) (judgeAnswered verdict place code (judgementOf (bridgeIn state) bytes)) (judgeAnswer (numberOf Ranges) verdict place code)
 
 -- BRIDGE_SWITCH_ON: "the state goes to `state`, the actions to the buffer from the mark on. .. 1 if `state` has another length."
 pub record SwitchCall : Type 0 where

@@ -2,7 +2,7 @@
 ghost use mathlib.Core.Path.{_≡_};
 ghost use lib.ListN.{length};
 ghost use Rattle.state_bytes.specs.StateBytes.{stateSize};
-ghost use Rattle.export.specs.Exported.{outcomeNumber, stateAfter, verdictNumber, placeOf, switchNumber};
+ghost use Rattle.export.specs.Exported.{outcomeNumber, stateAfter, verdictNumber, placeOf, codeIn, switchNumber};
 use bridge::Outcome;
 use bridge::Stepped;
 use grammar::Verdict;
@@ -34,7 +34,7 @@ pub(crate) fn verdict_number(v: Verdict) -> u8
     match v {
         Verdict::Whole => 0,
         Verdict::Open => 1,
-        Verdict::Wrong(_) => 2,
+        Verdict::Wrong { place: _, code: _ } => 2,
     }
 }
 
@@ -45,7 +45,18 @@ pub(crate) fn place_of(v: Verdict) -> usize
     match v {
         Verdict::Whole => 0,
         Verdict::Open => 0,
-        Verdict::Wrong(k) => k,
+        Verdict::Wrong { place, code: _ } => place,
+    }
+}
+
+// The code of a wrong byte, 0 where there is none.
+pub(crate) fn code_in(v: Verdict) -> u8
+    ensures { λ r. ⌜ r ≡ codeIn v ⌝ }
+{
+    match v {
+        Verdict::Whole => 0,
+        Verdict::Open => 0,
+        Verdict::Wrong { place: _, code } => code,
     }
 }
 

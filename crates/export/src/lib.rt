@@ -87,8 +87,9 @@ pub extern "C" fn bridge_judge(
     bytes: &[u8],
     verdict: &mut u8,
     place: &mut usize,
+    code: &mut u8,
 ) -> u8
-    ensures { λ r. ⌜ judgeAnswer r (now (verdict .exit)) (now (place .exit)) ≡ judgeGives (now (state .entry)) (now (bytes .entry)) (now (verdict .entry)) (now (place .entry)) ⌝ }
+    ensures { λ r. ⌜ judgeAnswer r (now (verdict .exit)) (now (place .exit)) (now (code .exit)) ≡ judgeGives (now (state .entry)) (now (bytes .entry)) (now (verdict .entry)) (now (place .entry)) (now (code .entry)) ⌝ }
 {
     if !decoding::is_state(state) {
         return refusals::number(Refusal::Ranges);
@@ -101,6 +102,7 @@ pub extern "C" fn bridge_judge(
         Judgement::Judged(v) => {
             *verdict = answers::verdict_number(v);
             *place = answers::place_of(v);
+            *code = answers::code_in(v);
             TAKEN
         }
     }

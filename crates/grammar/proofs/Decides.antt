@@ -5,12 +5,14 @@ use mathlib.Core.Path.{_≡_, refl, _∙_, ap, subst}
 use mathlib.Core.Bool.{Bool, true, false, cond}
 use mathlib.Core.List.{List, [], _∷_}
 use native.Mathlib.Omega.{arith}
-use lib.ListN.{length, take}
-use Rattle.codes.specs.Codes.{noConfiguration, unknownCommand, rejecting}
+use lib.ListN.{length, take, getD}
+use Rattle.codes.specs.Codes.{noConfiguration, wrongInterface, rejecting}
 use Rattle.grammar.specs.Grammar.{SPI, Context, Needs, Common, Selected, Configured, selected, legal, count}
-use Rattle.grammar.specs.Scanner.{Place, Between, Extended, Inside, Scanner, Scanned, Accepted, Rejected, Opening, Unknown, Known, Extension, openingOf, extensionOf, codeFor, between, going, opened, scanAt, scan, Course, through, rejectedAt, later, resume, scanAll}
-use Rattle.grammar.specs.Verdict.{Decided}
+use Rattle.grammar.specs.WrongCode.{codeFor}
+use Rattle.grammar.specs.Scanner.{Place, Between, Extended, Inside, Scanner, Scanned, Accepted, Rejected, Opening, Unknown, Known, Extension, openingOf, extensionOf, between, going, opened, scanAt, scan, Course, through, rejectedAt, later, resume, scanAll}
+use Rattle.grammar.specs.Verdict.{FirstWrong, CodeAt, Decided}
 use Rattle.grammar.proofs.Walks.{Walk, stay, move, orderly-walk, continuable-walk}
+use Rattle.grammar.proofs.Codes.{code-of, code-is}
 
 -- COURSES AND WALKS
 
@@ -76,7 +78,7 @@ rejected-stop g (b ∷ bs) k w e = go (scan g b) refl e (λ h k′. rejected-sto
         subst (FirstStop g (b ∷ bs)) kk
         (omega arith, (g, stay), λ t. let m = first-move t in let z : _≡_ {A = ℕ} 0 1 = cc (m .1, q) in omega arith)
 
--- A REJECTED BYTE'S CODE IS 80 OR 40
+-- A REJECTED BYTE'S CODE REJECTS
 
 abbrev Rejecting : Scanned → Type 0
 Rejecting (Accepted g) = Unit {0}
@@ -87,7 +89,7 @@ code-rejecting Common c = refl
 code-rejecting (Selected i) c = refl
 code-rejecting Configured c = go (selected SPI c)
   where
-    go : (t : Bool) → rejecting (cond t noConfiguration unknownCommand) ≡ true
+    go : (t : Bool) → rejecting (cond t noConfiguration wrongInterface) ≡ true
     go true = refl
     go false = refl
 
@@ -120,6 +122,46 @@ course-code g (b ∷ bs) k w e = go (scan g b) refl e (λ h j. course-code h bs 
     go (Accepted h) q p r = inner (scanAll h bs) p (r h)
     go (Rejected v) q p r = let vv : v ≡ w = cc in subst (λ (x : ℕ). rejecting x ≡ true) vv (reject-code g b v q)
 
+-- .. AND IS THE ONE THAT THE BYTES GIVE
+
+-- bytes are all accepted, and the byte b after them is rejected with the code w
+abbrev Stops : Scanner → List ℕ → ℕ → ℕ → Type 0
+Stops g xs b w = (h : Scanner) × Walk g xs h × (scan h b ≡ Rejected w)
+
+rejected-walk : (g : Scanner) (bs : List ℕ) (k w : ℕ) → scanAll g bs ≡ rejectedAt k w → Stops g (take k bs) (getD bs k 0) w
+rejected-walk g [] k w e = let z : _≡_ {A = ℕ} 0 1 = cc in absurd (omega arith)
+rejected-walk g (b ∷ bs) zero w e = (g, stay, go (scan g b) refl e)
+  where
+    go : (s : Scanned) → scan g b ≡ s → resume s (λ (i : Scanner). scanAll i bs) ≡ rejectedAt zero w → scan g b ≡ Rejected w
+    go (Accepted h) q p = inner (scanAll h bs) p
+      where
+        inner : (o : Course) → later o ≡ rejectedAt zero w → scan g b ≡ Rejected w
+        inner (through i) p = let z : _≡_ {A = ℕ} 0 1 = cc in absurd (omega arith)
+        inner (rejectedAt j v) p = let z : suc j ≡ 0 = cc in absurd (omega arith)
+    go (Rejected v) q p = let x : v ≡ w = cc in q ∙ ap Rejected x
+rejected-walk g (b ∷ bs) (suc k) w e = go (scan g b) refl e (λ h. rejected-walk h bs k w)
+  where
+    sooner : (o : Course) → later o ≡ rejectedAt (suc k) w → o ≡ rejectedAt k w
+    sooner (through i) p = let z : _≡_ {A = ℕ} 0 1 = cc in absurd (omega arith)
+    sooner (rejectedAt j v) p = cc
+
+    go : (s : Scanned) → scan g b ≡ s → resume s (λ (i : Scanner). scanAll i bs) ≡ rejectedAt (suc k) w → ((h : Scanner) → scanAll h bs ≡ rejectedAt k w → Stops h (take k bs) (getD bs k 0) w) → Stops g (b ∷ take k bs) (getD bs k 0) w
+    go (Accepted h) q p r = let t = r h (sooner (scanAll h bs) p) in (t .0, move q (t .1), t .2)
+    go (Rejected v) q p r = let z : 0 ≡ suc k = cc in absurd (omega arith)
+
+same-end : {g h i : Scanner} {bs : List ℕ} → Walk g bs h → Walk g bs i → h ≡ i
+same-end v w = let p = walk-course v in let q = walk-course w in cc
+
+module _ (c : Context) (bs : List ℕ) (k w : ℕ) where
+  rejected-code : scanAll (between c) bs ≡ rejectedAt k w → CodeAt c bs k w
+  rejected-code e = let r = rejected-walk (between c) bs k w e in code-of c (r .0 .place) (r .0 .context) (take k bs) (getD bs k 0) w (r .1) (r .2)
+
+  code-rejected : (v : ℕ) → scanAll (between c) bs ≡ rejectedAt k v → CodeAt c bs k w → scanAll (between c) bs ≡ rejectedAt k w
+  code-rejected v e x =
+      let r = rejected-walk (between c) bs k v e in
+      let s = code-is x in
+      e ∙ ap (rejectedAt k) (s .2 v (subst (λ (h : Scanner). scan h (getD bs k 0) ≡ Rejected v) (same-end (r .1) (s .1)) (r .2)))
+
 -- THE THEOREM
 
 pub decides : (c : Context) (bs : List ℕ) → Decided c bs
@@ -132,10 +174,15 @@ decides c bs = record {
     λ o. let w = continuable-walk c bs .0 o in (w .0, walk-course (w .1)),
     λ t. continuable-walk c bs .1 (t .0, course-walk (between c) bs (t .1)),
   );
-  wrong = λ k. (
-    λ f. stop-rejected (between c) bs k (f .0, continuable-walk c (take k bs) .0 (f .1), λ t. f .2 (continuable-walk c (take (suc k) bs) .1 t)),
-    λ r. let f = rejected-stop (between c) bs k (r .0) (r .1) in
-        (f .0, continuable-walk c (take k bs) .1 (f .1), λ t. f .2 (continuable-walk c (take (suc k) bs) .0 t)),
-  );
-  code = course-code (between c) bs;
+  wrong = λ k. (first-stop k, λ r. first-wrong k (r .0) (r .1));
+  code = λ k w. (λ f. let r = first-stop k (f .0) in code-rejected c bs k w (r .0) (r .1) (f .1), λ e. (first-wrong k w e, rejected-code c bs k w e));
+  rejects = course-code (between c) bs;
 }
+  where
+    first-stop : (k : ℕ) → FirstWrong c bs k → (w : ℕ) × (scanAll (between c) bs ≡ rejectedAt k w)
+    first-stop k f = stop-rejected (between c) bs k (f .0, continuable-walk c (take k bs) .0 (f .1), λ t. f .2 (continuable-walk c (take (suc k) bs) .1 t))
+
+    first-wrong : (k w : ℕ) → scanAll (between c) bs ≡ rejectedAt k w → FirstWrong c bs k
+    first-wrong k w e =
+        let f = rejected-stop (between c) bs k w e in
+        (f .0, continuable-walk c (take k bs) .1 (f .1), λ t. f .2 (continuable-walk c (take (suc k) bs) .0 t))

@@ -4,6 +4,7 @@ pub mod Lookups
 pub mod Scans
 pub mod Walks
 pub mod Divisions
+pub mod Codes
 pub mod Decides
 pub mod Verdicts
 pub mod Follows

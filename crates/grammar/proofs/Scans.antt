@@ -10,7 +10,8 @@ use lib.Dec.{eqb}
 use lib.ListN.{length, getD, drop, drop-of-length-le}
 use lib.Seq.{drop-cons}
 use Rattle.grammar.specs.Grammar.{Context, ContextChange, commands, count, contextAfter}
-use Rattle.grammar.specs.Scanner.{Place, Extended, Inside, Scanner, Scanned, Accepted, Rejected, Opening, Unknown, Known, Extension, rowOf, openingOf, codeFor, between, going, opened, scanAt, scan, Course, through, rejectedAt, later, resume, scanAll}
+use Rattle.grammar.specs.WrongCode.{codeFor}
+use Rattle.grammar.specs.Scanner.{Place, Extended, Inside, Scanner, Scanned, Accepted, Rejected, Opening, Unknown, Known, Extension, rowOf, openingOf, between, going, opened, scanAt, scan, Course, through, rejectedAt, later, resume, scanAll}
 use Rattle.grammar.specs.Verdict.{Whole, Open, Wrong, atEnd, verdict}
 use Rattle.grammar.specs.Following.{openingIn, operandsOf, operandsIn}
 use Rattle.grammar.specs.Lookups.{accepts, codeOf, changeOf}
@@ -94,7 +95,7 @@ read-next bs g₀ g h i l e q =
     ∙ ap (λ (x : Scanned). latest i (resume x (λ (h : Scanner). scanAll h (drop (suc i) bs)))) (sym e)
     ∙ ap (λ (x : ℕ). latest x (scanAll h (drop x bs))) n
 
-read-wrong : (bs : List ℕ) (g₀ g : Scanner) (i w : ℕ) → i < length bs → Rejected w ≡ scan g (getD bs i 0) → ReadTo bs g₀ g i → Wrong i ≡ verdict (scanAll g₀ bs)
+read-wrong : (bs : List ℕ) (g₀ g : Scanner) (i w : ℕ) → i < length bs → Rejected w ≡ scan g (getD bs i 0) → ReadTo bs g₀ g i → Wrong i w ≡ verdict (scanAll g₀ bs)
 read-wrong bs g₀ g i w l e q =
     let n : i + 0 ≡ i = omega arith in
     sym
@@ -103,7 +104,7 @@ read-wrong bs g₀ g i w l e q =
     ∙ ap (λ (x : List ℕ). latest i (scanAll g x)) (drop-cons bs i 0 l)
     ∙ ap (λ (x : Scanned). latest i (resume x (λ (h : Scanner). scanAll h (drop (suc i) bs)))) (sym e)
     ∙ latest-rejected i 0 w)
-    ∙ ap Wrong n)
+    ∙ ap (λ (k : ℕ). Wrong k w) n)
 
 read-end : (bs : List ℕ) (g₀ g : Scanner) (i : ℕ) → length bs ≤ i → ReadTo bs g₀ g i → atEnd (g .place) ≡ verdict (scanAll g₀ bs)
 read-end bs g₀ g i l q =
@@ -135,8 +136,8 @@ module _ (bs : List ℕ) (g₀ : Scanner) (c : Context) (b : ℕ) (x : Bool) (i 
   here : {s : Scanned} → s ≡ opened (openingIn b x) c b → s ≡ scan (standing c x) (getD bs i 0)
   here e = e ∙ scan-standing c b x ∙ ap (scan (standing c x)) at
 
-  pub turn-wrong : accepts (openingIn b x) c ≡ false → Wrong i ≡ verdict (scanAll g₀ bs)
-  turn-wrong q = read-wrong bs g₀ _ i _ l (here (rejected (openingIn b x) c b _ q refl)) r
+  pub turn-wrong : accepts (openingIn b x) c ≡ false → (w : ℕ) → w ≡ codeOf (openingIn b x) c → Wrong i w ≡ verdict (scanAll g₀ bs)
+  turn-wrong q w e = read-wrong bs g₀ _ i w l (here (rejected (openingIn b x) c b w q e)) r
 
   pub turn-extension : eqb b 0x1D && not x ≡ true → ReadTo bs g₀ (standing c true) (i + 1)
   turn-extension q = read-next bs g₀ _ _ i l (here (opens b x c q)) r

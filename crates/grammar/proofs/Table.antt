@@ -11,9 +11,17 @@ use Rattle.grammar.specs.Scanner.{Known, Extension, rowOf, openingOf, ex
 
 -- A CODE STANDS IN EACH TABLE ONCE
 
+-- every row of a table passes a test
+abbrev pub every : (Command → Bool) → List Command → Bool
+every f [] = true
+every f (k ∷ ks) = f k && every f ks
+
+pub every-mem : (f : Command → Bool) {k : Command} {l : List Command} → every f l ≡ true → List·Memᴰ k l → f k ≡ true
+every-mem f e (List·Memᴰ·head {x = x} {xs = xs} q) = ap f q ∙ and-eq-true-iff (f x) (every f xs) .0 e .0
+every-mem f e (List·Memᴰ·tail {x = x} {xs = xs} m) = every-mem f (and-eq-true-iff (f x) (every f xs) .0 e .1) m
+
 abbrev fresh : ℕ → List Command → Bool
-fresh b [] = true
-fresh b (k ∷ ks) = not (eqb (k .code) b) && fresh b ks
+fresh b l = every (λ (k : Command). not (eqb (k .code) b)) l
 
 abbrev distinct : List Command → Bool
 distinct [] = true
@@ -32,8 +40,7 @@ unfolding commands
 commands-fresh = refl
 
 fresh-mem : (b : ℕ) {k : Command} {l : List Command} → fresh b l ≡ true → List·Memᴰ k l → eqb (k .code) b ≡ false
-fresh-mem b {k} f (List·Memᴰ·head {x = x} {xs = xs} e) = ap (λ (y : Command). eqb (y .code) b) e ∙ not-true _ (and-eq-true-iff (not (eqb (x .code) b)) (fresh b xs) .0 f .0)
-fresh-mem b {k} f (List·Memᴰ·tail {x = x} {xs = xs} m) = fresh-mem b (and-eq-true-iff (not (eqb (x .code) b)) (fresh b xs) .0 f .1) m
+fresh-mem b f m = not-true _ (every-mem (λ (y : Command). not (eqb (y .code) b)) f m)
 
 -- LOOKING A BYTE UP
 

@@ -1,6 +1,6 @@
 -- The judge answers as 01's section "Grammar" says. Assumes nothing.
 use Prim.Native.Nat.{ℕ, zero, suc, _<_, _≤_}
-use mathlib.Core.Path.{_≡_, refl, sym, ap, subst}
+use mathlib.Core.Path.{_≡_, refl, sym, _∙_, ap, subst}
 use mathlib.Core.List.{List, [], _∷_, _++_, append-nil}
 use mathlib.Core.Logic.{_↔_}
 use native.Mathlib.Omega.{arith}
@@ -23,7 +23,7 @@ front (suc j) zero bs h = absurd (omega arith)
 front (suc j) (suc k) [] h = ([], refl)
 front (suc j) (suc k) (b ∷ bs) h = let f = front j k bs (omega arith) in (f .0, ap (λ (l : List ℕ). b ∷ l) (f .1))
 
-first-is-smallest : (c : Context) (bs : List ℕ) (k : ℕ) → FirstWrong c bs k ↔ SmallestWrong c bs k
+pub first-is-smallest : (c : Context) (bs : List ℕ) (k : ℕ) → FirstWrong c bs k ↔ SmallestWrong c bs k
 first-is-smallest c bs k = (there, back k)
   where
     there : FirstWrong c bs k → SmallestWrong c bs k
@@ -51,7 +51,7 @@ end-said c bs d (Inside f n) e =
 
 answer-said : (c : Context) (bs : List ℕ) (o : Course) → scanAll (between c) bs ≡ o → Says c bs (verdict o)
 answer-said c bs (through g) e = end-said c bs (g .context) (g .place) e
-answer-said c bs (rejectedAt k w) e = first-is-smallest c bs k .0 (decides c bs .wrong k .1 (w, e))
+answer-said c bs (rejectedAt k w) e = let f = decides c bs .code k w .1 e in (first-is-smallest c bs k .0 (f .0), f .1)
 
 -- THE ANSWERS EXCLUDE EACH OTHER
 
@@ -61,22 +61,20 @@ orderly-continuable c bs o = ([], tt, subst (Orderly c) (sym (append-nil bs)) o)
 never-wrong {ℓ} : {A : Type ℓ} (c : Context) (bs : List ℕ) (k : ℕ) → Continuable c bs → SmallestWrong c bs k → A
 never-wrong c bs k o s = absurd (s .1 (prefix-continuable c (take (suc k) bs) (drop (suc k) bs) (subst (Continuable c) (sym (take-append-drop (suc k) bs)) o)))
 
-one-smallest : (c : Context) (bs : List ℕ) (k j : ℕ) → SmallestWrong c bs k → SmallestWrong c bs j → k ≡ j
-one-smallest c bs k j s t =
-    let l : ¬ (k < j) = λ h. s .1 (t .2 k h) in
-    let m : ¬ (j < k) = λ h. t .1 (s .2 j h) in
-    omega arith
+-- the verdict at a wrong place is the scanner's
+said-wrong : (c : Context) (bs : List ℕ) (k w : ℕ) → Says c bs (Wrong k w) → judgeOf c bs ≡ Wrong k w
+said-wrong c bs k w s = ap verdict (decides c bs .code k w .0 (first-is-smallest c bs k .1 (s .0), s .1))
 
 exclusive : (c : Context) (bs : List ℕ) (v w : Verdict) → Says c bs v → Says c bs w → v ≡ w
 exclusive c bs Whole Whole s t = refl
 exclusive c bs Whole Open s t = absurd (t .0 s)
-exclusive c bs Whole (Wrong k) s t = never-wrong c bs k (orderly-continuable c bs s) t
+exclusive c bs Whole (Wrong k x) s t = never-wrong c bs k (orderly-continuable c bs s) (t .0)
 exclusive c bs Open Whole s t = absurd (s .0 t)
 exclusive c bs Open Open s t = refl
-exclusive c bs Open (Wrong k) s t = never-wrong c bs k (s .1) t
-exclusive c bs (Wrong k) Whole s t = never-wrong c bs k (orderly-continuable c bs t) s
-exclusive c bs (Wrong k) Open s t = never-wrong c bs k (t .1) s
-exclusive c bs (Wrong k) (Wrong j) s t = ap Wrong (one-smallest c bs k j s t)
+exclusive c bs Open (Wrong k x) s t = never-wrong c bs k (s .1) (t .0)
+exclusive c bs (Wrong k x) Whole s t = never-wrong c bs k (orderly-continuable c bs t) (s .0)
+exclusive c bs (Wrong k x) Open s t = never-wrong c bs k (t .1) (s .0)
+exclusive c bs (Wrong k x) (Wrong j y) s t = sym (said-wrong c bs k x s) ∙ said-wrong c bs j y t
 
 -- THE THEOREM
 

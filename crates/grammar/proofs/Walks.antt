@@ -7,7 +7,8 @@ use mathlib.Core.Logic.{_↔_}
 use native.Mathlib.Omega.{arith}
 use lib.ListN.{length}
 use Rattle.grammar.specs.Grammar.{Context, ContextChange, Command, extendedCommands, legal, count, contextAfter, last, Item, command, extended, Items, next, join, Orderly, Continuable, Bytes}
-use Rattle.grammar.specs.Scanner.{Place, Between, Extended, Inside, Scanner, Accepted, Rejected, Opening, Unknown, Known, Extension, openingOf, extensionOf, codeFor, between, going, opened, scanAt, scan}
+use Rattle.grammar.specs.WrongCode.{codeFor}
+use Rattle.grammar.specs.Scanner.{Place, Between, Extended, Inside, Scanner, Accepted, Rejected, Opening, Unknown, Known, Extension, openingOf, extensionOf, between, going, opened, scanAt, scan}
 use Rattle.grammar.proofs.Table.{opening-known, opening-extension, opening-command, extension-known, extension-none, extension-command}
 
 -- A WALK: the bytes are all accepted, and lead from one scanner to the other
@@ -37,7 +38,7 @@ known-accepted k c b o e l =
     ap (λ (x : Opening). opened x c b) e
     ∙ ap (λ (t : Bool). cond t (Accepted (going (k .change) (count (k .operands) c) b c)) (Rejected (codeFor (k .needs) c))) l
 
-opened-1D : (c : Context) → scan (between c) 0x1D ≡ Accepted (record { context = c; place = Extended })
+pub opened-1D : (c : Context) → scan (between c) 0x1D ≡ Accepted (record { context = c; place = Extended })
 unfolding openingOf
 opened-1D c = refl
 
@@ -48,7 +49,7 @@ item-walk {c} (extended k m l ops q) =
     move {h = record { context = c; place = Extended }} (opened-1D c)
     (move (known-accepted k c (k .code) _ (extension-command m) l) (operands-walk (k .change) _ (k .code) c ops q))
 
-items-walk : {c d : Context} {xs : List (List ℕ)} → Items c xs d → Walk (between c) (join xs) (between d)
+pub items-walk : {c d : Context} {xs : List (List ℕ)} → Items c xs d → Walk (between c) (join xs) (between d)
 items-walk Items.none = stay
 items-walk (next i r) = walk-append (item-walk i) (items-walk r)
 
@@ -69,10 +70,10 @@ going-rest : (e : ContextChange) (n b : ℕ) (c : Context) (bs : List ℕ) (d : 
 going-rest e zero b c bs d (xs, its, j) = ([], xs, refl, its, j)
 going-rest e (suc n) b c bs d (x, r, g, q) = (x ∷ g .0, g .1, ap suc (g .2), g .3, ap (λ (l : List ℕ). x ∷ l) (g .4) ∙ q)
 
-accepted : {g h : Scanner} → Accepted g ≡ Accepted h → h ≡ g
+pub accepted : {g h : Scanner} → Accepted g ≡ Accepted h → h ≡ g
 accepted e = cc
 
-never-accepted {ℓ} : {A : Type ℓ} {w : ℕ} {h : Scanner} → Rejected w ≡ Accepted h → A
+pub never-accepted {ℓ} : {A : Type ℓ} {w : ℕ} {h : Scanner} → Rejected w ≡ Accepted h → A
 never-accepted e = let z : _≡_ {A = ℕ} 0 1 = cc in absurd (omega arith)
 
 -- a command that was accepted was legal, and its operands follow
@@ -108,7 +109,7 @@ rest-step Extended c b bs d h e r = go (extensionOf b) refl e
     go Extension q p = absurd (extension-none b q)
 rest-step (Inside f n) c b bs d h e r = (b, bs, going-rest f n b c bs d (subst (λ (g : Scanner). RestOf g bs d) (accepted e) r), refl)
 
-walk-rest : {g i : Scanner} {bs : List ℕ} → Walk g bs i → i .place ≡ Between → RestOf g bs (i .context)
+pub walk-rest : {g i : Scanner} {bs : List ℕ} → Walk g bs i → i .place ≡ Between → RestOf g bs (i .context)
 walk-rest {g} stay e = subst (λ (p : Place). Rest p (g .context) [] (g .context)) (sym e) ([], Items.none, refl)
 walk-rest {g} {i} {bs} (move {h = h} {b = b} {bs = bs′} s w) e = rest-step (g .place) (g .context) b bs′ (i .context) h s (walk-rest w e)
 

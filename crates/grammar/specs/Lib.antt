@@ -1,4 +1,5 @@
 pub mod Grammar
+pub mod WrongCode
 pub mod Scanner
 pub mod Verdict
 pub mod Machines

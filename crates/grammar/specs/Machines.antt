@@ -7,7 +7,7 @@ use mathlib.Core.Logic.{_↔_}
 use lib.ListN.{getD}
 use Rattle.codes.specs.Codes.{anyRejecting}
 use Rattle.grammar.specs.Grammar.{Context, Division, Orderly, Continuable}
-use Rattle.grammar.specs.Verdict.{FirstWrong}
+use Rattle.grammar.specs.Verdict.{FirstWrong, CodeAt}
 
 -- a machine that takes a byte and what is lent to it, and answers
 pub record Machine : Type 1 where
@@ -70,9 +70,16 @@ NoneRejected cs = (j : ℕ) → wasRejected cs j ≡ false
 abbrev pub FirstRejected : List (List ℕ) → ℕ → Type 0
 FirstRejected cs k = (wasRejected cs k ≡ true) × ((j : ℕ) → j < k → wasRejected cs j ≡ false)
 
+-- the byte at a place returned one code, w
+abbrev pub ReturnedAt : List (List ℕ) → ℕ → ℕ → Type 0
+ReturnedAt cs k w = getD cs k [] ≡ w ∷ []
+
 -- DEMAND 3, of one list of calls from a state s (proofs/Demand3.antt, `demand-3`, of every machine that follows the scanner)
 pub record Demand3 (M : Machine) (s : M .State) (ks : List (Call M)) : Type 0 where
   pub none-rejected : NoneRejected (told M (notRefused M s ks)) ↔ Continuable (M .context s) (bytes M (notRefused M s ks))
   pub first-rejected : (k : ℕ) → FirstRejected (told M (notRefused M s ks)) k ↔ FirstWrong (M .context s) (bytes M (notRefused M s ks)) k
+  -- the code returned at the first rejected place is the one that the bytes give (02, Ask 1)
+  pub first-code : (k w : ℕ) → (FirstRejected (told M (notRefused M s ks)) k × ReturnedAt (told M (notRefused M s ks)) k w)
+      ↔ (FirstWrong (M .context s) (bytes M (notRefused M s ks)) k × CodeAt (M .context s) (bytes M (notRefused M s ks)) k w)
   pub waits-for-nothing : (M .Idle (final M s ks) × NoneRejected (told M (notRefused M s ks))) ↔ Orderly (M .context s) (bytes M (notRefused M s ks))
   pub divided-once : (p q : Division (M .context s) (bytes M (notRefused M s ks))) → p .0 ≡ q .0

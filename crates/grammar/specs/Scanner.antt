@@ -4,8 +4,9 @@ use Prim.Native.Nat.{ℕ, zero, suc}
 use mathlib.Core.Bool.{cond}
 use mathlib.Core.List.{List, [], _∷_}
 use lib.Dec.{eqb}
-use Rattle.codes.specs.Codes.{noConfiguration, unknownCommand}
-use Rattle.grammar.specs.Grammar.{SPI, Context, Needs, Common, Selected, Configured, ContextChange, Command, commands, extendedCommands, selected, legal, count, contextAfter}
+use Rattle.codes.specs.Codes.{unknownCommand}
+use Rattle.grammar.specs.Grammar.{Context, ContextChange, Command, commands, extendedCommands, legal, count, contextAfter}
+use Rattle.grammar.specs.WrongCode.{codeFor}
 pub use Rattle.grammar.specs.declared.Place.{Place}
 pub use Rattle.grammar.specs.declared.Place.the-variants.{Between, Extended, Inside}
 pub use Rattle.grammar.specs.declared.Scanner.{Scanner}
@@ -14,12 +15,6 @@ pub use Rattle.grammar.specs.declared.Scanned.the-variants.{Accepted, Re
 
 abbrev pub between : Context → Scanner
 between c = record { context = c; place = Between }
-
--- THE CODE that the device returns for a command that is not legal: 40 for a want of configuration, else 80
-abbrev pub codeFor : Needs → Context → ℕ
-codeFor Common c = unknownCommand
-codeFor (Selected i) c = unknownCommand
-codeFor Configured c = cond (selected SPI c) noConfiguration unknownCommand
 
 -- WHAT A BYTE OPENS: nothing that is known, a command, or 1D's second byte
 pub data Opening : Type 0 where

@@ -49,11 +49,11 @@ pub enum Scanned {
     Rejected(u8),
 }
 
-// The judge's answer: 01's whole, open, or wrong at a place.
+// The judge's answer: 01's whole, open, or wrong at a place, with the code that the device returns there.
 pub enum Verdict {
     Whole,
     Open,
-    Wrong(usize),
+    Wrong { place: usize, code: u8 },
 }
 
 // No interface, unconfigured, N 1: the context after 00, and at the factory start.
@@ -77,7 +77,10 @@ pub fn judge(c: Context, bytes: &[u8]) -> Verdict
     while i < bytes.len() {
         let b = bytes[i];
         if !rows::is_legal(at, b, extended) {
-            return Verdict::Wrong(i);
+            return Verdict::Wrong {
+                place: i,
+                code: rows::code_for(at, b, extended),
+            };
         }
         if (b == 0x1D) & !extended {
             extended = true;

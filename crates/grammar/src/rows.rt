@@ -3,12 +3,25 @@ ghost use mathlib.Core.Path.{_≡_};
 ghost use Rattle.grammar.specs.Grammar.{interfaceNumber, selected};
 ghost use Rattle.grammar.specs.Scanner.{openingOf};
 ghost use Rattle.grammar.specs.Following.{openingIn, operandsIn};
-ghost use Rattle.grammar.specs.Lookups.{accepts, needsConfigured, codeOf, changeOf};
+ghost use Rattle.grammar.specs.Lookups.{accepts, isOf, needsConfigured, codeOf, changeOf};
 use crate::Context;
 use crate::ContextChange;
 use crate::Interface;
 use codes::NO_CONFIGURATION;
 use codes::UNKNOWN_COMMAND;
+use codes::WRONG_INTERFACE;
+
+// Whether a byte is a command of an interface.
+fn is_of(i: Interface, b: u8) -> bool
+    ensures { λ r. ⌜ r ≡ isOf i (openingOf b) ⌝ }
+{
+    match i {
+        Interface::NoInterface => false,
+        Interface::I2C => (0x20 <= b) & (b < 0x28),
+        Interface::SPI => (0x40 <= b) & (b < 0x4D),
+        Interface::OneWire => (0x60 <= b) & (b < 0x6B),
+    }
+}
 
 fn needs_configured(b: u8) -> bool
     ensures { λ r. ⌜ r ≡ needsConfigured (openingOf b) ⌝ }
@@ -26,9 +39,9 @@ fn may_begin(c: Context, b: u8) -> bool
     let at = c.interface;
     match at {
         Interface::NoInterface => false,
-        Interface::I2C => (0x20 <= b) & (b < 0x28),
-        Interface::SPI => (0x40 <= b) & (b < 0x4D) & (!needs_configured(b) | c.configured),
-        Interface::OneWire => (0x60 <= b) & (b < 0x6B),
+        Interface::I2C => is_of(Interface::I2C, b),
+        Interface::SPI => is_of(Interface::SPI, b) & (!needs_configured(b) | c.configured),
+        Interface::OneWire => is_of(Interface::OneWire, b),
     }
 }
 
@@ -69,6 +82,9 @@ pub(crate) fn code_for(c: Context, b: u8, extended: bool) -> u8
     }
     if needs_configured(b) & is_selected(Interface::SPI, c) {
         return NO_CONFIGURATION;
+    }
+    if is_of(Interface::I2C, b) | is_of(Interface::SPI, b) | is_of(Interface::OneWire, b) {
+        return WRONG_INTERFACE;
     }
     UNKNOWN_COMMAND
 }

@@ -1,5 +1,5 @@
 // Judges command bytes from the factory start: those of standard input, or of the file that the argument names. Prints `whole`,
-// `open` or `wrong at K` in a line.
+// `open` or `wrong at K (CODE)` in a line.
 use bridge::Judgement;
 use grammar::Verdict;
 use input::Input;

@@ -17,4 +17,5 @@ words-spec =
     (λ c. sym (ap wordsOf (c .before .before .match .keys6)))
     (λ c. sym (ap wordsOf (c .before .before .match .keys7)))
     (λ c. sym (ap wordsOf (c .before .before .match .keys8)))
+    (λ c. sym (ap wordsOf (c .before .before .match .keys9)))
     (λ c. ap wordsIn (missed (means "" passes) (Unit {0}) codeTable (c .before .args .code) (c .match .rest))))

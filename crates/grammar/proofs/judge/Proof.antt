@@ -25,11 +25,12 @@ judge-spec =
     (λ c. (omega arith, refl))
     (λ c. search needs)
     (λ c κs. search needs)
+    (λ c κs. search needs)
     (λ c.
-    let l = c .before in
+    let l = c .before .before in
     let t = l .before .before in
     let s = t .before .loop in
-    turn-wrong (t .before .before .before .args .bytes .now) _ (s .at) _ (s .extended) (s .i) (t .loop-test .taken) refl (s .inv .1) (sym (l .is-legal .ensures) ∙ not-true _ (c .if1 .taken)))
+    turn-wrong (t .before .before .before .args .bytes .now) _ (s .at) _ (s .extended) (s .i) (t .loop-test .taken) refl (s .inv .1) (sym (l .is-legal .ensures) ∙ not-true _ (c .before .if1 .taken)) _ (c .code-for .ensures))
     (λ c. search needs)
     (λ c. search needs)
     (λ c.

@@ -4,10 +4,10 @@ use mathlib.Core.Path.{_≡_, refl, sym, _∙_, ap}
 use mathlib.Core.Bool.{Bool, true, false, cond, not, _&&_, _||_}
 use borrow.Author.Needs.{needs}
 use borrow.Author.Tests.{lt-ltb, le-ltb}
-use lib.Dec.{ltb, leb}
+use lib.Dec.{ltb}
 use Rattle.grammar.specs.Grammar.{Interface, NoInterface, I2C, SPI, OneWire, Context, commands}
 use Rattle.grammar.specs.Scanner.{openingOf}
-use Rattle.grammar.specs.Lookups.{accepts, needsConfigured}
+use Rattle.grammar.specs.Lookups.{accepts, isOf, needsConfigured}
 use Rattle.grammar.proofs.Lookups.{values, byte-fact}
 use Rattle.grammar.proofs.rows.may_begin.Statement.{statement}
 use Rattle.grammar.proofs.rows.may_begin.Tie as tie
@@ -15,9 +15,9 @@ use Rattle.grammar.proofs.rows.may_begin.Tie as tie
 -- a byte past the common commands
 abbrev own : Interface → Bool → ℕ → Bool
 own NoInterface q b = false
-own I2C q b = leb 0x20 b && ltb b 0x28
-own SPI q b = leb 0x40 b && ltb b 0x4D && (not (needsConfigured (openingOf b)) || q)
-own OneWire q b = leb 0x60 b && ltb b 0x6B
+own I2C q b = isOf I2C (openingOf b)
+own SPI q b = isOf SPI (openingOf b) && (not (needsConfigured (openingOf b)) || q)
+own OneWire q b = isOf OneWire (openingOf b)
 
 abbrev legalBy : Interface → ℕ → Bool → ℕ → Bool
 legalBy i b q n = cond (ltb b 0x1F) true (own i q b)
@@ -47,13 +47,23 @@ may-begin-spec =
     (λ c. begins (c .before .args .b) (c .before .args .c) true (search needs) (lt-ltb _ _ (c .if1 .taken)))
     (λ c. search needs)
     (λ c. search needs)
-    (λ c. search needs)
     (λ c κs. search needs)
     (λ c. search needs)
+    (λ c κs. search needs)
+    (λ c κs. search needs)
+    (λ c. search needs)
+    (λ c κs. search needs)
     (λ c. let s = c .before .before .before in its-own (s .args .b) (s .args .c) NoInterface (search needs) (c .before .before .if1 .left) (c .enum-told .given .1))
-    (λ c. let s = c .before .before .before in its-own (s .args .b) (s .args .c) I2C (search needs) (c .before .before .if1 .left) (c .enum-told2 .given .1))
     (λ c.
-    let t = c .before .before in
+    let t = c .before in
     let s = t .before .before .before in
-    rw (c .before .needs-configured .ensures) (its-own (s .args .b) (s .args .c) SPI (search needs) (t .before .before .if1 .left) (t .enum-told3 .given .1)))
-    (λ c. let s = c .before .before .before in its-own (s .args .b) (s .args .c) OneWire (search needs) (c .before .before .if1 .left) (c .enum-told4 .given .1)))
+    c .is-of .ensures ∙ its-own (s .args .b) (s .args .c) I2C (search needs) (t .before .before .if1 .left) (t .enum-told2 .given .1))
+    (λ c.
+    let o = c .before .before in
+    let t = o .before in
+    let s = t .before .before .before in
+    rw (o .is-of2 .ensures, c .before .needs-configured .ensures) (its-own (s .args .b) (s .args .c) SPI (search needs) (t .before .before .if1 .left) (t .enum-told3 .given .1)))
+    (λ c.
+    let t = c .before in
+    let s = t .before .before .before in
+    c .is-of3 .ensures ∙ its-own (s .args .b) (s .args .c) OneWire (search needs) (t .before .before .if1 .left) (t .enum-told4 .given .1)))
