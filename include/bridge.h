@@ -61,10 +61,11 @@ uint8_t bridge_step(uint8_t *state, size_t state_size, uint8_t kind, uint8_t val
                     uint8_t *replies, size_t replies_size, size_t replied,
                     size_t *samples_used, size_t *reply_count, size_t *action_count);
 
-/* Judges command bytes from a start: the verdict, and with BRIDGE_WRONG the place, else 0 there. Refused with 1, or 12 if the start
- * waits; verdict and place then stay as they were. */
+/* Judges command bytes from a start: the verdict, and with BRIDGE_WRONG the place and the code that bridge_step would return there (80
+ * unknown command, 84 wrong interface, 40 no SPI configuration, hex), else 0 in both. Refused with 1, or 12 if the start waits; verdict,
+ * place and code then stay as they were. */
 uint8_t bridge_judge(const uint8_t *state, size_t state_size, const uint8_t *bytes, size_t bytes_size,
-                     uint8_t *verdict, size_t *place);
+                     uint8_t *verdict, size_t *place, uint8_t *code);
 
 /* Switches on from two images of settings: the state goes to `state`, the actions to the buffer from the mark on. Refused with 11
  * if the factory image is not good, 3 if the actions do not fit; the state is then all zero. 1 if `state` has another length. */

@@ -37,6 +37,7 @@ mod c {
             bytes_size: usize,
             verdict: *mut u8,
             place: *mut usize,
+            code: *mut u8,
         ) -> u8;
 
         pub fn bridge_switch_on(
@@ -145,10 +146,10 @@ pub fn step(
     }
 }
 
-/// `bridge_judge`: the verdict on command bytes, and the place with [`WRONG`].
-pub fn judge(state: &[u8], bytes: &[u8], verdict: &mut u8, place: &mut usize) -> u8 {
-    // SAFETY: each pointer and the length after it are those of one slice that is only read; the two numbers are borrowed alone.
-    unsafe { c::bridge_judge(state.as_ptr(), state.len(), bytes.as_ptr(), bytes.len(), verdict, place) }
+/// `bridge_judge`: the verdict on command bytes, and with [`WRONG`] the place and the code.
+pub fn judge(state: &[u8], bytes: &[u8], verdict: &mut u8, place: &mut usize, code: &mut u8) -> u8 {
+    // SAFETY: each pointer and the length after it are those of one slice that is only read; the three numbers are borrowed alone.
+    unsafe { c::bridge_judge(state.as_ptr(), state.len(), bytes.as_ptr(), bytes.len(), verdict, place, code) }
 }
 
 /// `bridge_switch_on`: a state and its actions from two images of settings.

@@ -177,17 +177,22 @@ pub enum Verdict {
     /// Not whole, but more bytes can make it so.
     Open,
     /// No bytes can mend what stands at this place.
-    WrongAt(usize),
+    WrongAt {
+        /// The place, from 0.
+        place: usize,
+        /// The code that the bridge would return there: 80 unknown command, 84 wrong interface or 40 no SPI configuration, hex.
+        code: u8,
+    },
 }
 
 /// Judges command bytes from a start between commands. Refused with 1, or with 12 if the start waits.
 pub fn judge(start: &State, bytes: &[u8]) -> Result<Verdict, Refusal> {
-    let (mut verdict, mut place) = (0, 0);
-    taken(calls::judge(&start.0, bytes, &mut verdict, &mut place))?;
+    let (mut verdict, mut place, mut code) = (0, 0, 0);
+    taken(calls::judge(&start.0, bytes, &mut verdict, &mut place, &mut code))?;
     Ok(match verdict {
         calls::WHOLE => Verdict::Whole,
         calls::OPEN => Verdict::Open,
-        _ => Verdict::WrongAt(place),
+        _ => Verdict::WrongAt { place, code },
     })
 }
 

@@ -53,9 +53,13 @@ fn verdicts() {
     assert_eq!(from_factory(&[]), Verdict::Whole);
     assert_eq!(from_factory(&[2, 0x40, 4, 0x42, 9, 0x44, 0xAA, 1]), Verdict::Whole);
     assert_eq!(from_factory(&[2, 0x40, 4, 0x42, 9, 0x44, 0xAA]), Verdict::Open);
-    assert_eq!(from_factory(&[2, 0x44]), Verdict::WrongAt(1));
+    assert_eq!(from_factory(&[2, 0x44]), Verdict::WrongAt { place: 1, code: 0x40 });
     assert_eq!(from_factory(&[2, 0x40, 4, 1, 2, 0x46]), Verdict::Whole);
-    assert_eq!(from_factory(&[2, 0x40, 4, 0, 2, 0x46]), Verdict::WrongAt(5));
+    assert_eq!(from_factory(&[2, 0x40, 4, 0, 2, 0x46]), Verdict::WrongAt { place: 5, code: 0x40 });
+    // 02, Ask 1: of another interface, of none, and after 1D
+    assert_eq!(from_factory(&[2, 0x20]), Verdict::WrongAt { place: 1, code: 0x84 });
+    assert_eq!(from_factory(&[2, 0x28]), Verdict::WrongAt { place: 1, code: 0x80 });
+    assert_eq!(from_factory(&[0x1D, 0x20]), Verdict::WrongAt { place: 1, code: 0x80 });
     assert_eq!(judge(&after(&[0x1D]).0, &[]), Err(Refusal(12)));
 }
 

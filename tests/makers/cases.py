@@ -29,21 +29,36 @@ def after(text):
     assert not state.extended and not state.due
     return state
 
+def stepped(state, data):
+    """The judge's line by what the model's calls for the bytes return, without the grammar (demand 3)."""
+    for place, byte in enumerate(data):
+        state.error = None      # so that it tells whether this byte returns a code
+        state = step(state, 0, byte, bytes(64))[0]
+        if state.error in (0x80, 0x84, 0x40):       # 02, Ask 1: "a rejected byte now returns one of the three"
+            return f"wrong at {place} ({state.error:02x})"
+    return "open" if state.extended or state.due else "whole"
+
 def verdicts():
     def judged(front, text):
         state, data = after(front), bytes.fromhex(text)
-        return image(state) + data, verdict(Context(state.flags & 7, state.configured, state.bits()), data)
+        line = verdict(Context(state.flags & 7, state.configured, state.bits()), data)
+        assert stepped(after(front), data) == line, (front, text)
+        return image(state) + data, line
 
-    # "P8 empty: whole. P9 ... whole; without the last 01 open. P10 ... wrong at 1. P11 ... whole. P12 ... wrong at 5."
-    edges = {"": "whole", "02 40 04 42 09 44 AA 01": "whole", "02 40 04 42 09 44 AA": "open", "02 44": "wrong at 1",
-             "02 40 04 01 02 46": "whole", "02 40 04 00 02 46": "wrong at 5"}
+    # "P8 empty: whole. P9 ... whole; without the last 01 open. P10 ... wrong at 1. P11 ... whole. P12 ... wrong at 5."; 02, Ask 1: "with
+    # SPI selected 40 stays"
+    edges = {"": "whole", "02 40 04 42 09 44 AA 01": "whole", "02 40 04 42 09 44 AA": "open", "02 44": "wrong at 1 (40)",
+             "02 40 04 01 02 46": "whole", "02 40 04 00 02 46": "wrong at 5 (40)"}
     for text, line in edges.items():
         assert judged("", text)[1] == line, text
         yield judged("", text)
     whole = every_item()
     yield from (judged("", whole[:size].hex()) for size in range(len(whole) + 1))   # every front part of every item
     yield from (judged("", f"{byte:02X}") for byte in range(256))
-    yield from (judged("", f"1D {byte:02X}") for byte in (*range(32), 0x80, 0xFF))
+    yield from (judged("", f"1D {byte:02X}") for byte in (*range(32), 0x20, 0x41, 0x6A, 0x80, 0xFF))
+    # 02, Ask 1: the first and last commands of each interface and the bytes beside them, with each interface selected
+    for byte in (0x1F, 0x20, 0x27, 0x28, 0x3F, 0x40, 0x41, 0x4C, 0x4D, 0x5F, 0x60, 0x6A, 0x6B):
+        yield from (judged(front, f"{byte:02X}") for front in ("01", "02", "03"))
     # "The context is the interface, configured or not, and N, at first the start state's."
     for front in ("01", "02", "02 40 01", "02 40 04 42 00", "02 40 05 42 0C", "02 40 07 01", "03", "02 40 00 42 11 03"):
         for text in ("22 5A", "22", "20 40", "40", "41", "46", "44 01", "44 01 02", "44" + " 55" * 8, "4C" + " 55" * 9, "02 44", "02 46",

@@ -145,11 +145,17 @@ TABLES = {"common": COMMON, "extended": EXTENDED, 0: {}, I2C: I2C_TABLE, SPI: SP
 
 # ---- one event ----
 
+def rejection(table, byte):
+    """The code for a byte that stands where this table's rows may stand, and is none of them."""
+    # 02, Ask 1: "A command that 01 lists for an interface not selected returns the new device code 84, every other byte that 01 answers
+    # with 80, and any such after 1D, keeps 80"
+    listed = any(byte in TABLES[interface] for interface in (I2C, SPI, ONE_WIRE))
+    return 0x84 if listed and table != "extended" else 0x80
+
 def carry_out(t, table, byte):
-    # "An interface command without its interface selected, and any other byte: 80."; "of the state
-    # it touches only ERROR, so after 1D a bad byte leaves the wait (H)"
+    # "of the state it touches only ERROR, so after 1D a bad byte leaves the wait (H)"
     if byte not in TABLES[table]:
-        return t.returns(0x80)
+        return t.returns(rejection(table, byte))
     SEEN.add((table, byte))
     t.state.extended = False
     return TABLES[table][byte](t)

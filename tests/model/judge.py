@@ -1,8 +1,9 @@
-"""The judge, written from 01's section "Grammar" on top of the model's tables. Text in quotes in the comments is from 01."""
+"""The judge, written from 01's section "Grammar" and 02's Ask 1 on top of the model's tables. Text in quotes in the comments is from
+01, or from 02 where a request is named."""
 from typing import NamedTuple
 
 from model.common import COMMON, EXTENDED, I2C, ONE_WIRE, SPI
-from model.interfaces import TABLES
+from model.interfaces import TABLES, rejection
 
 NEED_CONFIGURED = (0x41, 0x44, 0x46, 0x4B, 0x4C)    # "41, 44, 46, 4B, 4C need configured."
 # "returns 00, then one operand", in the order of the sections
@@ -17,6 +18,9 @@ class Context(NamedTuple):
     def legal(self, byte):      # "a command legal in its context (common, or of its interface)"
         named = byte in COMMON or byte in TABLES[self.interface]
         return named and (self.configured or byte not in NEED_CONFIGURED)
+
+    def code(self, byte):       # 02, Ask 1: "with SPI selected 40 stays"
+        return 0x40 if byte in TABLES[self.interface] else rejection(self.interface, byte)
 
     def operands(self, byte):   # "none, one, nine (65) or ceil(N/8) (44, 4C)"
         return {0x65: 9, 0x44: -(-self.bits // 8), 0x4C: -(-self.bits // 8)}.get(byte, int(byte in ONE_OPERAND))
@@ -33,15 +37,15 @@ class Context(NamedTuple):
         return self._replace(configured=True) if byte == 0x40 else self
 
 def verdict(context, data):
-    """The line that the judge's answer is: "whole", "open" or "wrong at place k"."""
+    """The line that the judge's answer is: "whole", "open" or "wrong at place k", with the code there (02, Ask 1)."""
     at = 0
     while at < len(data):
         if not context.legal(data[at]):
-            return f"wrong at {at}"
+            return f"wrong at {at} ({context.code(data[at]):02x})"
         end = at + 1 + context.operands(data[at])
         if data[at] == 0x1D:    # "for 1D, an extended byte that its rules above define, and that byte's operand if it has one"
             if data[at + 1:] and data[at + 1] not in EXTENDED:
-                return f"wrong at {at + 1}"
+                return f"wrong at {at + 1} ({rejection('extended', data[at + 1]):02x})"
             end = at + 2 + (data[at + 1:at + 2] == b"\x0E")
         if end > len(data):
             return "open"

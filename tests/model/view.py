@@ -27,9 +27,10 @@ NAMES = {
 NAME = {(table, byte): name for table, (codes, text) in NAMES.items() for byte, name in zip(codes, text.split(), strict=True)}
 assert set(NAME) == {(table, byte) for table in TABLES if table for byte in TABLES[table]}
 
-# "00 none, 20 no I2C acknowledge, 40 no SPI configuration, 60 no presence, 80 unknown command, 81 frame, 82 overrun, 83 parity"
+# "00 none, 20 no I2C acknowledge, 40 no SPI configuration, 60 no presence, 80 unknown command, 81 frame, 82 overrun, 83 parity"; 02, Ask
+# 1: "Wrong interface is not unknown .. the new device code 84"
 CODES = {0x00: "none", 0x20: "no acknowledge", 0x40: "no SPI configuration", 0x60: "no presence", 0x80: "unknown command",
-         0x81: "frame", 0x82: "overrun", 0x83: "parity"}
+         0x81: "frame", 0x82: "overrun", 0x83: "parity", 0x84: "wrong interface"}
 # "Refusal numbers", those that a session can end with
 REASONS = {2: "fewer samples are left than the event uses", 5: "1 to 3 bytes left where a record header should be",
            6: "record length over 4,096", 7: "record body passes the end", 8: "unknown kind",

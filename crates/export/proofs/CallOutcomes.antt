@@ -22,7 +22,7 @@ use Rattle.state_bytes.specs.StateBytes.{stateSize, stateBytes, stateIn, isStat
 use Rattle.refusals.specs.Refusals.{numberOf}
 use Rattle.refusals.specs.declared.Refusal.{Refusal}
 use Rattle.refusals.specs.declared.Refusal.the-variants.{Ranges}
-use Rattle.export.specs.Exported.{Asked, startCall, startGives, stepCall, eventAsked, outcomeNumber, stateAfter, stepAnswered, withoutEvent, stepGives, judgeAnswer, verdictNumber, placeOf, judgeAnswered, judgeGives, switchCall, switchNumber, switchAnswered, switchGives}
+use Rattle.export.specs.Exported.{Asked, startCall, startGives, stepCall, eventAsked, outcomeNumber, stateAfter, stepAnswered, withoutEvent, stepGives, judgeAnswer, verdictNumber, placeOf, codeIn, judgeAnswered, judgeGives, switchCall, switchNumber, switchAnswered, switchGives}
 use Rattle.export.specs.declared.arguments.Asked.the-variants as a
 
 module _ (state : List ℕ) where
@@ -60,21 +60,21 @@ module _ (state : List ℕ) where
           ∙ ap (λ (t : State). stepAnswered state (answerOf (record { state = t }) e l)) es
           ∙ rw (h, ← ex, q)
 
-  module _ (bytes : List ℕ) (verdict place : ℕ) where
-    pub judge-no-state : isState state ≡ false → {n : ℕ} → n ≡ numberOf Ranges → judgeAnswer n verdict place ≡ judgeGives state bytes verdict place
+  module _ (bytes : List ℕ) (verdict place code : ℕ) where
+    pub judge-no-state : isState state ≡ false → {n : ℕ} → n ≡ numberOf Ranges → judgeAnswer n verdict place code ≡ judgeGives state bytes verdict place code
     unfolding judgeGives
     judge-no-state h e = rw (h, e)
 
     module _ (h : isState state ≡ true) {s : State} (es : s ≡ stateIn state) {x : Judgement} (ex : x ≡ judgementOf (record { state = s }) bytes) where
-      judged : judgeAnswered verdict place x ≡ judgeGives state bytes verdict place
+      judged : judgeAnswered verdict place code x ≡ judgeGives state bytes verdict place code
       unfolding judgeGives
-      judged = ap (judgeAnswered verdict place) (ex ∙ ap (λ (t : State). judgementOf (record { state = t }) bytes) es) ∙ rw h
+      judged = ap (judgeAnswered verdict place code) (ex ∙ ap (λ (t : State). judgementOf (record { state = t }) bytes) es) ∙ rw h
 
-      pub judge-refused : {w : Refusal} → x ≡ j.Refused w → {n : ℕ} → n ≡ numberOf w → judgeAnswer n verdict place ≡ judgeGives state bytes verdict place
-      judge-refused q e = ap (λ (k : ℕ). judgeAnswer k verdict place) e ∙ ap (judgeAnswered verdict place) (sym q) ∙ judged
+      pub judge-refused : {w : Refusal} → x ≡ j.Refused w → {n : ℕ} → n ≡ numberOf w → judgeAnswer n verdict place code ≡ judgeGives state bytes verdict place code
+      judge-refused q e = ap (λ (k : ℕ). judgeAnswer k verdict place code) e ∙ ap (judgeAnswered verdict place code) (sym q) ∙ judged
 
-      pub judge-judged : {w : Verdict} → x ≡ j.Judged w → {v k : ℕ} → v ≡ verdictNumber w → k ≡ placeOf w → judgeAnswer 0 v k ≡ judgeGives state bytes verdict place
-      judge-judged q ev ek = (λ i. judgeAnswer 0 (ev i) (ek i)) ∙ ap (judgeAnswered verdict place) (sym q) ∙ judged
+      pub judge-judged : {w : Verdict} → x ≡ j.Judged w → {v k y : ℕ} → v ≡ verdictNumber w → k ≡ placeOf w → y ≡ codeIn w → judgeAnswer 0 v k y ≡ judgeGives state bytes verdict place code
+      judge-judged q ev ek ey = (λ i. judgeAnswer 0 (ev i) (ek i) (ey i)) ∙ ap (judgeAnswered verdict place code) (sym q) ∙ judged
 
   module _ (stored factory : List ℕ) (d : Device) (buffer : List ℕ) (mark : ℕ) where
     pub switch-refused : (length state ≡ stateSize → ⊥) → {n : ℕ} → n ≡ numberOf Ranges → switchCall n state buffer 0 ≡ switchGives stored factory d state buffer mark

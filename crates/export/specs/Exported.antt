@@ -102,7 +102,8 @@ stepAsked state l (a.Refused why) = stepRefused (withoutEvent (stateIn state) wh
 unfoldable pub stepGives : List ℕ → ℕ → ℕ → Lent → StepCall
 stepGives state kind value l = cond (isState state) (stepAsked state l (eventAsked kind value)) (stepRefused (numberOf Ranges) state l)
 
--- BRIDGE_JUDGE: "the verdict, and with BRIDGE_WRONG the place and the code", else 0 there; refused, all three stay
+-- BRIDGE_JUDGE: "the verdict, and with BRIDGE_WRONG the place and the code that bridge_step would return there .., else 0 in both";
+-- refused, "verdict, place and code then stay as they were"
 pub record JudgeAnswer : Type 0 where
   pub number : ℕ
   pub verdict : ℕ

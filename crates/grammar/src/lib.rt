@@ -77,10 +77,8 @@ pub fn judge(c: Context, bytes: &[u8]) -> Verdict
     while i < bytes.len() {
         let b = bytes[i];
         if !rows::is_legal(at, b, extended) {
-            return Verdict::Wrong {
-                place: i,
-                code: rows::code_for(at, b, extended),
-            };
+            let code = rows::code_for(at, b, extended);
+            return Verdict::Wrong { place: i, code };
         }
         if (b == 0x1D) & !extended {
             extended = true;

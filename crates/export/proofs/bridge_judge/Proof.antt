@@ -15,7 +15,7 @@ bridge-judge-spec =
     (λ c κs. search needs)
     (λ c.
     let s = c .before .before .before .before .before in
-    judge-no-state (s .args .state .now) (s .args .bytes .now) (s .args .verdict .now) (s .args .place .now) (sym (c .before .before .is-state .ensures) ∙ not-true _ (c .before .if1 .taken)) (c .number .ensures))
+    judge-no-state (s .args .state .now) (s .args .bytes .now) (s .args .verdict .now) (s .args .place .now) (s .args .code .now) (sym (c .before .before .is-state .ensures) ∙ not-true _ (c .before .if1 .taken)) (c .number .ensures))
     (λ c κs. state-facts (c .before .before .before .before .args .state .now) (sym (c .before .is-state .ensures) ∙ not-false _ (c .if1 .left)) .size)
     (λ c κs. search needs)
     (λ c. search needs)
@@ -23,9 +23,14 @@ bridge-judge-spec =
     (λ c. search needs)
     (λ c κs. search needs)
     (λ c κs. search needs)
+    (λ c κs. search needs)
     (λ c.
     let s = c .before .before .before .before .before .before .before .before .before .before in
-    judge-refused (s .args .state .now) (s .args .bytes .now) (s .args .verdict .now) (s .args .place .now) (sym (c .before .before .before .before .before .before .before .is-state .ensures) ∙ not-false _ (c .before .before .before .before .before .before .if1 .left)) (c .before .before .before .before .before .state-of .ensures) (c .before .before .before .before .judge .ensures) (c .before .before .j .given .1) (c .number2 .ensures))
+    judge-refused (s .args .state .now) (s .args .bytes .now) (s .args .verdict .now) (s .args .place .now) (s .args .code .now) (sym (c .before .before .before .before .before .before .before .is-state .ensures) ∙ not-false _ (c .before .before .before .before .before .before .if1 .left)) (c .before .before .before .before .before .state-of .ensures) (c .before .before .before .before .judge .ensures) (c .before .before .j .given .1) (c .number2 .ensures))
     (λ c.
-    let s = c .before .before .before .before .before .before .before .before .before .before .before in
-    judge-judged (s .args .state .now) (s .args .bytes .now) (s .args .verdict .now) (s .args .place .now) (sym (c .before .before .before .before .before .before .before .before .is-state .ensures) ∙ not-false _ (c .before .before .before .before .before .before .before .if1 .left)) (c .before .before .before .before .before .before .state-of .ensures) (c .before .before .before .before .before .judge .ensures) (c .before .before .before .j2 .given .1) (c .before .verdict-number .ensures) (c .place-of .ensures)))
+    let p = c .before in
+    let v = p .before in
+    let b = v .before .before .before .before in
+    let i = b .before .before .before in
+    let s = i .before .before .before in
+    judge-judged (s .args .state .now) (s .args .bytes .now) (s .args .verdict .now) (s .args .place .now) (s .args .code .now) (sym (i .is-state .ensures) ∙ not-false _ (b .before .before .if1 .left)) (b .before .state-of .ensures) (b .judge .ensures) (v .before .before .j2 .given .1) (v .verdict-number .ensures) (p .place-of .ensures) (c .code-in .ensures)))

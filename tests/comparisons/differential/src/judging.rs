@@ -17,9 +17,10 @@ pub struct Tally {
     pub refused: u64,
 }
 
-/// What both numbers behind a pointer hold before a call.
+/// What the numbers behind a pointer hold before a call.
 const VERDICT: u8 = 0x5A;
 const PLACE: usize = 0x5A5A;
+const CODE: u8 = 0xA5;
 
 /// So many bytes that the bridge has a use for, one after the other.
 pub fn script(dice: &mut Dice, state: &State, length: usize) -> Vec<u8> {
@@ -31,7 +32,7 @@ pub fn script(dice: &mut Dice, state: &State, length: usize) -> Vec<u8> {
         let byte = likely_byte(dice, &state);
         reference::step::take(&mut after, Event::Byte(byte), &mut Lines::new(&[]));
         // A byte that is rejected stays only in scripts with slips.
-        let rejected = after.error == 0x80 || after.error == 0x40;
+        let rejected = matches!(after.error, 0x80 | 0x84 | 0x40);
         if !rejected || slips && dice.one_in(8) {
             script.push(byte);
             after.error = 0;
@@ -64,20 +65,20 @@ pub fn compare(dice: &mut Dice, tally: &mut Tally) -> Result<(), String> {
     }
     let bytes = bytes.into_boxed_slice();
 
-    let (mut verdict, mut place) = (Box::new(VERDICT), Box::new(PLACE));
-    let refusal = calls::judge(&start, &bytes, &mut verdict, &mut place);
-    let library = (refusal, *verdict, *place);
+    let (mut verdict, mut place, mut code) = (Box::new(VERDICT), Box::new(PLACE), Box::new(CODE));
+    let refusal = calls::judge(&start, &bytes, &mut verdict, &mut place, &mut code);
+    let library = (refusal, *verdict, *place, *code);
     let judgement = state.map_or(Judgement::Refused(1), |state| reference::judge(&state, &bytes));
-    // The place of what is not wrong is 0.
+    // The place and the code of what is not wrong are 0.
     let reference = match judgement {
-        Judgement::Whole => (0, calls::WHOLE, 0),
-        Judgement::Open => (0, calls::OPEN, 0),
-        Judgement::WrongAt(place) => (0, calls::WRONG, place),
-        Judgement::Refused(number) => (number, VERDICT, PLACE),
+        Judgement::Whole => (0, calls::WHOLE, 0, 0),
+        Judgement::Open => (0, calls::OPEN, 0, 0),
+        Judgement::WrongAt(place, code) => (0, calls::WRONG, place, code),
+        Judgement::Refused(number) => (number, VERDICT, PLACE, CODE),
     };
     if library != reference {
         return Err(format!(
-            "judge\nstart {}\nbytes {}\nlibrary   (refusal, verdict, place) {library:x?}\nreference (refusal, verdict, place) {reference:x?}\n",
+            "judge\nstart {}\nbytes {}\nlibrary   (refusal, verdict, place, code) {library:x?}\nreference (refusal, verdict, place, code) {reference:x?}\n",
             hex(&start),
             hex(&bytes)
         ));
@@ -85,7 +86,7 @@ pub fn compare(dice: &mut Dice, tally: &mut Tally) -> Result<(), String> {
     match judgement {
         Judgement::Whole => tally.whole += 1,
         Judgement::Open => tally.open += 1,
-        Judgement::WrongAt(_) => tally.wrong += 1,
+        Judgement::WrongAt(..) => tally.wrong += 1,
         Judgement::Refused(_) => tally.refused += 1,
     }
     Ok(())

@@ -1,12 +1,15 @@
 //! The judge of command streams, from the grammar of items alone.
 
-use crate::state::{State, Wait, I2C_SEL, ONE_WIRE_SEL, SPI_SEL};
+use crate::state::{
+    State, Wait, I2C_SEL, NO_CONFIGURATION, ONE_WIRE_SEL, SPI_SEL, UNKNOWN_COMMAND, WRONG_INTERFACE,
+};
 
 #[derive(Clone, Copy, PartialEq, Eq, Debug)]
 pub enum Judgement {
     Whole,
     Open,
-    WrongAt(usize),
+    /// The place, and "the code the bridge would return there" (02, Ask 1).
+    WrongAt(usize, u8),
     /// 1 or 12.
     Refused(u8),
 }
@@ -36,11 +39,11 @@ enum Form {
 }
 
 /// How the bytes begin: with an item so many bytes long, with a part of one, or with something
-/// that no bytes put after it can mend.
+/// that no bytes put after it can mend, and its code.
 enum Front {
     Item(usize),
     Part,
-    Wrong(usize),
+    Wrong(usize, u8),
 }
 
 pub fn judge(state: &State, bytes: &[u8]) -> Judgement {
@@ -60,7 +63,7 @@ pub fn judge(state: &State, bytes: &[u8]) -> Judgement {
                 place += length;
             }
             Front::Part => return Judgement::Open,
-            Front::Wrong(k) => return Judgement::WrongAt(place + k),
+            Front::Wrong(k, code) => return Judgement::WrongAt(place + k, code),
         }
     }
     Judgement::Whole
@@ -83,11 +86,12 @@ impl Context {
     /// The front of bytes that are not empty.
     fn front(&self, bytes: &[u8]) -> Front {
         let length = match self.form(bytes[0]) {
-            None => return Front::Wrong(0),
-            Some(Form::Operands(operands)) => 1 + operands,
-            Some(Form::Extended) => match bytes.get(1).map(|&byte| extended_operands(byte)) {
+            Err(code) => return Front::Wrong(0, code),
+            Ok(Form::Operands(operands)) => 1 + operands,
+            Ok(Form::Extended) => match bytes.get(1).map(|&byte| extended_operands(byte)) {
                 None => return Front::Part,
-                Some(None) => return Front::Wrong(1),
+                // 02, Ask 1: "and any such after 1D, keeps 80"
+                Some(None) => return Front::Wrong(1, UNKNOWN_COMMAND),
                 Some(Some(operands)) => 2 + operands,
             },
         };
@@ -98,25 +102,27 @@ impl Context {
         }
     }
 
-    /// The form of "a command legal in its context (common, or of its interface)", else none.
-    fn form(&self, command: u8) -> Option<Form> {
+    /// The form of "a command legal in its context (common, or of its interface)", else its code.
+    fn form(&self, command: u8) -> Result<Form, u8> {
         let operands = match (command, self.interface) {
-            (0x1D, _) => return Some(Form::Extended),
+            (0x1D, _) => return Ok(Form::Extended),
             (0x0B | 0x0D | 0x0F | 0x11 | 0x13 | 0x15, _) => 1,
             (0x00..=0x1E, _) => 0,
             (0x22, Interface::I2c) => 1,
             (0x20..=0x27, Interface::I2c) => 0,
-            // "41, 44, 46, 4B, 4C need configured."
-            (0x41 | 0x44 | 0x46 | 0x4B | 0x4C, Interface::Spi) if !self.configured => return None,
+            // "41, 44, 46, 4B, 4C need configured."; 02, Ask 1: "with SPI selected 40 stays"
+            (0x41 | 0x44 | 0x46 | 0x4B | 0x4C, Interface::Spi) if !self.configured => return Err(NO_CONFIGURATION),
             (0x40 | 0x42, Interface::Spi) => 1,
             (0x44 | 0x4C, Interface::Spi) => self.bits.div_ceil(8),
             (0x40..=0x4C, Interface::Spi) => 0,
             (0x61 | 0x63 | 0x67, Interface::OneWire) => 1,
             (0x65, Interface::OneWire) => 9,
             (0x60..=0x6A, Interface::OneWire) => 0,
-            _ => return None,
+            // 02, Ask 1: "A command that 01 lists for an interface not selected"
+            (0x20..=0x27 | 0x40..=0x4C | 0x60..=0x6A, _) => return Err(WRONG_INTERFACE),
+            _ => return Err(UNKNOWN_COMMAND),
         };
-        Some(Form::Operands(operands))
+        Ok(Form::Operands(operands))
     }
 
     /// "00 clears the context to none, unconfigured, N = 1; 01 to 03 change the interface; 40

@@ -20,7 +20,7 @@ fn verdict(bytes: &[u8]) -> String {
     match judge(&factory_start(), bytes) {
         Judgement::Whole => "whole\n".to_string(),
         Judgement::Open => "open\n".to_string(),
-        Judgement::WrongAt(k) => format!("wrong at {k}\n"),
+        Judgement::WrongAt(k, code) => format!("wrong at {k} ({code:02x})\n"),
         Judgement::Refused(number) => format!("refused {number}\n"),
     }
 }

@@ -20,6 +20,8 @@ pub const NO_ACKNOWLEDGE: u8 = 0x20;
 pub const NO_CONFIGURATION: u8 = 0x40;
 pub const NO_PRESENCE: u8 = 0x60;
 pub const UNKNOWN_COMMAND: u8 = 0x80;
+/// 02, Ask 1: "the new device code 84".
+pub const WRONG_INTERFACE: u8 = 0x84;
 
 /// "86 C4 CC, BC BF F9, BC BF C7"
 pub const DEFAULT_TIMINGS: [u8; 9] = [0x86, 0xC4, 0xCC, 0xBC, 0xBF, 0xF9, 0xBC, 0xBF, 0xC7];

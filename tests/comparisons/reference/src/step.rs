@@ -1,7 +1,9 @@
 //! One event goes in with the state, and the new state is handed back.
 
 use crate::actions::Lines;
-use crate::state::{Event, Operand, State, Wait, I2C_SEL, ONE_WIRE_SEL, SPI_SEL, UNKNOWN_COMMAND};
+use crate::state::{
+    Event, Operand, State, Wait, I2C_SEL, ONE_WIRE_SEL, SPI_SEL, UNKNOWN_COMMAND, WRONG_INTERFACE,
+};
 use crate::{common, extended, i2c, one_wire, spi};
 
 #[derive(Clone, PartialEq, Eq, Debug)]
@@ -86,13 +88,15 @@ pub fn take(state: &mut State, event: Event, lines: &mut Lines) {
     }
 }
 
-/// "An interface command without its interface selected, and any other byte: 80."
+/// 02, Ask 1: "A command that 01 lists for an interface not selected returns the new device code 84,
+/// every other byte that 01 answers with 80 .. keeps 80".
 fn command(state: &mut State, byte: u8, lines: &mut Lines) {
     match byte {
         0x00..=0x1F => common::command(state, byte, lines),
         0x20..=0x3F if state.flags & I2C_SEL != 0 => i2c::command(state, byte, lines),
         0x40..=0x5F if state.flags & SPI_SEL != 0 => spi::command(state, byte, lines),
         0x60..=0x7F if state.flags & ONE_WIRE_SEL != 0 => one_wire::command(state, byte, lines),
+        0x20..=0x27 | 0x40..=0x4C | 0x60..=0x6A => lines.returns(state, WRONG_INTERFACE),
         _ => lines.returns(state, UNKNOWN_COMMAND),
     }
 }

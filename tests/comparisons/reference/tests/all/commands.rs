@@ -141,16 +141,21 @@ fn bad_extended_byte_leaves_the_wait() {
 }
 
 #[test]
-fn unknown_bytes_touch_only_error() {
+fn bytes_without_a_command_here_touch_only_error() {
     let interfaces = [(&[][..], 0x00), (&[0x01], 0x20), (&[0x02], 0x40), (&[0x03], 0x60)];
     let last = [(0x00, 0x1E), (0x20, 0x27), (0x40, 0x4C), (0x60, 0x6A)];
     for (choice, own) in interfaces {
         let start = reporting(choice);
-        let known = |byte: u8| last.iter().any(|&(a, z)| (a == 0 || a == own) && a <= byte && byte <= z);
-        for byte in (0x00..=0xFF).filter(|&byte| !known(byte)) {
+        for byte in 0x00..=0xFF {
+            // 02, Ask 1: listed for another interface 84, else 80
+            let code = match last.iter().find(|&&(a, z)| a <= byte && byte <= z) {
+                Some(&(a, _)) if a == 0 || a == own => continue,
+                Some(_) => 0x84,
+                None => 0x80,
+            };
             let fed = feed(&start, &[byte], &[]);
-            assert_eq!(fed.state, State { error: 0x80, ..start.clone() });
-            assert_eq!((fed.replies, fed.actions), (vec![0x80], vec![]));
+            assert_eq!(fed.state, State { error: code, ..start.clone() });
+            assert_eq!((fed.replies, fed.actions), (vec![code], vec![]));
         }
     }
 }

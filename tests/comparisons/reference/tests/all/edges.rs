@@ -75,7 +75,7 @@ fn p9_packet_of_nine_bits() {
 
 #[test]
 fn p10_unconfigured_packet() {
-    assert_eq!(judged(&[0x02, 0x44]), Judgement::WrongAt(1));
+    assert_eq!(judged(&[0x02, 0x44]), Judgement::WrongAt(1, 0x40));
 }
 
 #[test]
@@ -85,5 +85,5 @@ fn p11_spi_settings_stay_at_01() {
 
 #[test]
 fn p12_spi_settings_go_at_00() {
-    assert_eq!(judged(&[0x02, 0x40, 0x04, 0x00, 0x02, 0x46]), Judgement::WrongAt(5));
+    assert_eq!(judged(&[0x02, 0x40, 0x04, 0x00, 0x02, 0x46]), Judgement::WrongAt(5, 0x40));
 }

@@ -15,8 +15,9 @@ fn the_start_gives_the_first_context() {
     let start = reporting(&[0x02, 0x40, 0x00, 0x42, 17]);
     assert_eq!(judge(&start, &[0x44, 1, 2]), Judgement::Open);
     assert_eq!(judge(&start, &[0x44, 1, 2, 3]), Judgement::Whole);
-    assert_eq!(judge(&start, &[0x4C, 1, 2, 3, 0xFF]), Judgement::WrongAt(4));
-    assert_eq!(judge(&start, &[0x00, 0x02, 0x41]), Judgement::WrongAt(2));
+    assert_eq!(judge(&start, &[0x4C, 1, 2, 3, 0xFF]), Judgement::WrongAt(4, 0x80));
+    assert_eq!(judge(&start, &[0x00, 0x02, 0x41]), Judgement::WrongAt(2, 0x40));
+    assert_eq!(judge(&start, &[0x00, 0x41]), Judgement::WrongAt(1, 0x84));
 }
 
 #[test]
@@ -26,8 +27,8 @@ fn extended_items() {
     assert_eq!(judge(&start, &[0x1D, 0x0E]), Judgement::Open);
     assert_eq!(judge(&start, &[0x1D, 0x0E, 0xFF]), Judgement::Whole);
     assert_eq!(judge(&start, &[0x1D, 0x0F]), Judgement::Whole);
-    for byte in [0x00, 0x04, 0x05, 0x06, 0x07, 0x10, 0xFF] {
-        assert_eq!(judge(&start, &[0x1A, 0x1D, byte]), Judgement::WrongAt(2));
+    for byte in [0x00, 0x04, 0x05, 0x06, 0x07, 0x10, 0x20, 0x41, 0x60, 0xFF] {
+        assert_eq!(judge(&start, &[0x1A, 0x1D, byte]), Judgement::WrongAt(2, 0x80));
     }
 }
 
@@ -39,18 +40,18 @@ fn timings_take_nine_operands() {
     assert_eq!(judge(&factory_start(), &bytes[..10]), Judgement::Open);
 }
 
-/// Whether the byte is rejected: returns 80, or 40 without a configuration.
-fn rejected(state: &State, byte: u8) -> Option<State> {
+/// The state after the byte, or the code that rejects it: 80, 84, or 40 without a configuration.
+fn taken(state: &State, byte: u8) -> Result<State, u8> {
     let before = State { error: 0xAA, ..state.clone() };
     let (mut actions, mut replies) = ([0; 2048], [0; 64]);
     let answer = step(&before, Event::Byte(byte), &[0; 64], 0, &mut actions, 0, &mut replies, 0);
     assert_eq!(answer.outcome, 0);
-    let rejected = matches!(answer.state.error, 0x80 | 0x40);
-    if rejected {
+    let code = answer.state.error;
+    if matches!(code, 0x80 | 0x84 | 0x40) {
         assert_eq!(State { error: 0xAA, ..answer.state }, before);
-        return None;
+        return Err(code);
     }
-    Some(answer.state)
+    Ok(answer.state)
 }
 
 #[test]
@@ -68,16 +69,16 @@ fn the_step_takes_just_what_the_judge_allows() {
         let mut state = factory_start();
         let mut wrong = None;
         for (k, &byte) in bytes.iter().enumerate() {
-            match rejected(&state, byte) {
-                Some(next) => state = next,
-                None => {
-                    wrong = Some(k);
+            match taken(&state, byte) {
+                Ok(next) => state = next,
+                Err(code) => {
+                    wrong = Some((k, code));
                     break;
                 }
             }
         }
         let expected = match wrong {
-            Some(k) => Judgement::WrongAt(k),
+            Some((k, code)) => Judgement::WrongAt(k, code),
             None if state.wait == Wait::Nothing => Judgement::Whole,
             None => Judgement::Open,
         };
