@@ -19,8 +19,8 @@ use Rattle.decisions.specs.Events.{effectOf}
 abbrev pub Keeps : State → Event → List ℕ → ℕ → Type 0
 Keeps s e ss m = InRange s → InRange ((effectOf s e ss m) .state)
 
--- `event-rejects` in proofs/Rejects.antt: it returns one code, 80 or 40; "of the state it touches only ERROR", which holds that code
--- then; and it moves no pin and uses no sample
+-- `event-rejects` in proofs/Rejects.antt: it returns one code, 80, 84 or 40; "of the state it touches only ERROR", which holds that
+-- code then; and it moves no pin and uses no sample
 pub record OnlyError (s : State) (x : Effect) : Type 0 where
   pub code : ℕ
   pub returned : codesOf (x .said) ≡ code ∷ []
