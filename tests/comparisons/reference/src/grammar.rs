@@ -111,7 +111,9 @@ impl Context {
             (0x22, Interface::I2c) => 1,
             (0x20..=0x27, Interface::I2c) => 0,
             // "41, 44, 46, 4B, 4C need configured."; 02, Ask 1: "with SPI selected 40 stays"
-            (0x41 | 0x44 | 0x46 | 0x4B | 0x4C, Interface::Spi) if !self.configured => return Err(NO_CONFIGURATION),
+            (0x41 | 0x44 | 0x46 | 0x4B | 0x4C, Interface::Spi) if !self.configured => {
+                return Err(NO_CONFIGURATION)
+            }
             (0x40 | 0x42, Interface::Spi) => 1,
             (0x44 | 0x4C, Interface::Spi) => self.bits.div_ceil(8),
             (0x40..=0x4C, Interface::Spi) => 0,
