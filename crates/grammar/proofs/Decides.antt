@@ -6,12 +6,13 @@ use mathlib.Core.Bool.{Bool, true, false, cond}
 use mathlib.Core.List.{List, [], _∷_}
 use native.Mathlib.Omega.{arith}
 use lib.ListN.{length, take, getD}
+use lib.Seq.{take-suc}
 use Rattle.codes.specs.Codes.{noConfiguration, wrongInterface, rejecting}
 use Rattle.grammar.specs.Grammar.{SPI, Context, Needs, Common, Selected, Configured, selected, legal, count}
 use Rattle.grammar.specs.WrongCode.{codeFor}
 use Rattle.grammar.specs.Scanner.{Place, Between, Extended, Inside, Scanner, Scanned, Accepted, Rejected, Opening, Unknown, Known, Extension, openingOf, extensionOf, between, going, opened, scanAt, scan, Course, through, rejectedAt, later, resume, scanAll}
 use Rattle.grammar.specs.Verdict.{FirstWrong, CodeAt, Decided}
-use Rattle.grammar.proofs.Walks.{Walk, stay, move, orderly-walk, continuable-walk}
+use Rattle.grammar.proofs.Walks.{Walk, stay, move, walk-split, orderly-walk, continuable-walk}
 use Rattle.grammar.proofs.Codes.{code-of, code-is}
 
 -- COURSES AND WALKS
@@ -58,25 +59,45 @@ stop-rejected g (b ∷ bs) (suc k) f =
     let r = stop-rejected (m .0) bs k (omega (arith, f .0), m .2, λ t. f .2 (t .0, move (m .1) (t .1))) in
     (r .0, ap (λ (s : Scanned). resume s (λ (i : Scanner). scanAll i bs)) (m .1) ∙ ap later (r .1))
 
-rejected-stop : (g : Scanner) (bs : List ℕ) (k w : ℕ) → scanAll g bs ≡ rejectedAt k w → FirstStop g bs k
-rejected-stop g [] k w e = let z : _≡_ {A = ℕ} 0 1 = cc in absurd (omega arith)
-rejected-stop g (b ∷ bs) k w e = go (scan g b) refl e (λ h k′. rejected-stop h bs k′ w)
-  where
-    inner : (h : Scanner) → scan g b ≡ Accepted h → (o : Course) → scanAll h bs ≡ o → later o ≡ rejectedAt k w → ((k′ : ℕ) → scanAll h bs ≡ rejectedAt k′ w → FirstStop h bs k′) → FirstStop g (b ∷ bs) k
-    inner h q (through i) p l r = let z : _≡_ {A = ℕ} 0 1 = cc in absurd (omega arith)
-    inner h q (rejectedAt k′ w′) p l r =
-        let kk : suc k′ ≡ k = cc in
-        let ww : w′ ≡ w = cc in
-        let f = r k′ (p ∙ ap (rejectedAt k′) ww) in
-        subst (FirstStop g (b ∷ bs)) kk
-        (omega (arith, f .0), (f .1 .0, move q (f .1 .1)), λ t. let m = first-move t in f .2 (subst (λ (i : Scanner). Passes i (take (suc k′) bs)) (let s : m .0 ≡ h = cc (m .1, q) in s) (m .2)))
+-- bytes are all accepted, and the byte b after them is rejected with the code w
+abbrev Stops : Scanner → List ℕ → ℕ → ℕ → Type 0
+Stops g xs b w = (h : Scanner) × Walk g xs h × (scan h b ≡ Rejected w)
 
-    go : (s : Scanned) → scan g b ≡ s → resume s (λ (i : Scanner). scanAll i bs) ≡ rejectedAt k w → ((h : Scanner) (k′ : ℕ) → scanAll h bs ≡ rejectedAt k′ w → FirstStop h bs k′) → FirstStop g (b ∷ bs) k
-    go (Accepted h) q p r = inner h q (scanAll h bs) refl p (r h)
-    go (Rejected v) q p r =
-        let kk : 0 ≡ k = cc in
-        subst (FirstStop g (b ∷ bs)) kk
-        (omega arith, (g, stay), λ t. let m = first-move t in let z : _≡_ {A = ℕ} 0 1 = cc (m .1, q) in omega arith)
+rejected-walk : (g : Scanner) (bs : List ℕ) (k w : ℕ) → scanAll g bs ≡ rejectedAt k w → (k < length bs) × Stops g (take k bs) (getD bs k 0) w
+rejected-walk g [] k w e = let z : _≡_ {A = ℕ} 0 1 = cc in absurd (omega arith)
+rejected-walk g (b ∷ bs) zero w e = (omega arith, (g, stay, go (scan g b) refl e))
+  where
+    go : (s : Scanned) → scan g b ≡ s → resume s (λ (i : Scanner). scanAll i bs) ≡ rejectedAt zero w → scan g b ≡ Rejected w
+    go (Accepted h) q p = inner (scanAll h bs) p
+      where
+        inner : (o : Course) → later o ≡ rejectedAt zero w → scan g b ≡ Rejected w
+        inner (through i) p = let z : _≡_ {A = ℕ} 0 1 = cc in absurd (omega arith)
+        inner (rejectedAt j v) p = let z : suc j ≡ 0 = cc in absurd (omega arith)
+    go (Rejected v) q p = let x : v ≡ w = cc in q ∙ ap Rejected x
+rejected-walk g (b ∷ bs) (suc k) w e = go (scan g b) refl e (λ h. rejected-walk h bs k w)
+  where
+    sooner : (o : Course) → later o ≡ rejectedAt (suc k) w → o ≡ rejectedAt k w
+    sooner (through i) p = let z : _≡_ {A = ℕ} 0 1 = cc in absurd (omega arith)
+    sooner (rejectedAt j v) p = cc
+
+    go : (s : Scanned) → scan g b ≡ s → resume s (λ (i : Scanner). scanAll i bs) ≡ rejectedAt (suc k) w → ((h : Scanner) → scanAll h bs ≡ rejectedAt k w → (k < length bs) × Stops h (take k bs) (getD bs k 0) w) → (suc k < length (b ∷ bs)) × Stops g (b ∷ take k bs) (getD bs k 0) w
+    go (Accepted h) q p r = let t = r h (sooner (scanAll h bs) p) in let n = t .0 in (omega arith, (t .1 .0, move q (t .1 .1), t .1 .2))
+    go (Rejected v) q p r = let z : 0 ≡ suc k = cc in absurd (omega arith)
+
+same-end : {g h i : Scanner} {bs : List ℕ} → Walk g bs h → Walk g bs i → h ≡ i
+same-end v w = let p = walk-course v in let q = walk-course w in cc
+
+rejected-stop : (g : Scanner) (bs : List ℕ) (k w : ℕ) → scanAll g bs ≡ rejectedAt k w → FirstStop g bs k
+rejected-stop g bs k w e =
+    let r = rejected-walk g bs k w e in (
+      r .0,
+      (r .1 .0, r .1 .1),
+      λ t. let s = walk-split (take k bs) (subst (λ (l : List ℕ). Walk g l (t .0)) (take-suc bs k 0 (r .0)) (t .1)) in
+          let m = first-move (t .0, s .2) in
+          let q : r .1 .0 ≡ s .0 = same-end (r .1 .1) (s .1) in
+          let z : _≡_ {A = ℕ} 0 1 = cc (m .1, r .1 .2, q) in
+          omega arith,
+    )
 
 -- A REJECTED BYTE'S CODE REJECTS
 
@@ -110,57 +131,17 @@ scan-rejecting (Inside e n) c b = tt
 pub reject-code : (g : Scanner) (b w : ℕ) → scan g b ≡ Rejected w → rejecting w ≡ true
 reject-code g b w e = subst Rejecting e (scan-rejecting (g .place) (g .context) b)
 
-course-code : (g : Scanner) (bs : List ℕ) (k w : ℕ) → scanAll g bs ≡ rejectedAt k w → rejecting w ≡ true
-course-code g [] k w e = let z : _≡_ {A = ℕ} 0 1 = cc in absurd (omega arith)
-course-code g (b ∷ bs) k w e = go (scan g b) refl e (λ h j. course-code h bs j w)
-  where
-    inner : (o : Course) → later o ≡ rejectedAt k w → ((j : ℕ) → o ≡ rejectedAt j w → rejecting w ≡ true) → rejecting w ≡ true
-    inner (through i) p r = let z : _≡_ {A = ℕ} 0 1 = cc in absurd (omega arith)
-    inner (rejectedAt j v) p r = r j (let q : v ≡ w = cc in ap (rejectedAt j) q)
-
-    go : (s : Scanned) → scan g b ≡ s → resume s (λ (i : Scanner). scanAll i bs) ≡ rejectedAt k w → ((h : Scanner) (j : ℕ) → scanAll h bs ≡ rejectedAt j w → rejecting w ≡ true) → rejecting w ≡ true
-    go (Accepted h) q p r = inner (scanAll h bs) p (r h)
-    go (Rejected v) q p r = let vv : v ≡ w = cc in subst (λ (x : ℕ). rejecting x ≡ true) vv (reject-code g b v q)
-
 -- .. AND IS THE ONE THAT THE BYTES GIVE
-
--- bytes are all accepted, and the byte b after them is rejected with the code w
-abbrev Stops : Scanner → List ℕ → ℕ → ℕ → Type 0
-Stops g xs b w = (h : Scanner) × Walk g xs h × (scan h b ≡ Rejected w)
-
-rejected-walk : (g : Scanner) (bs : List ℕ) (k w : ℕ) → scanAll g bs ≡ rejectedAt k w → Stops g (take k bs) (getD bs k 0) w
-rejected-walk g [] k w e = let z : _≡_ {A = ℕ} 0 1 = cc in absurd (omega arith)
-rejected-walk g (b ∷ bs) zero w e = (g, stay, go (scan g b) refl e)
-  where
-    go : (s : Scanned) → scan g b ≡ s → resume s (λ (i : Scanner). scanAll i bs) ≡ rejectedAt zero w → scan g b ≡ Rejected w
-    go (Accepted h) q p = inner (scanAll h bs) p
-      where
-        inner : (o : Course) → later o ≡ rejectedAt zero w → scan g b ≡ Rejected w
-        inner (through i) p = let z : _≡_ {A = ℕ} 0 1 = cc in absurd (omega arith)
-        inner (rejectedAt j v) p = let z : suc j ≡ 0 = cc in absurd (omega arith)
-    go (Rejected v) q p = let x : v ≡ w = cc in q ∙ ap Rejected x
-rejected-walk g (b ∷ bs) (suc k) w e = go (scan g b) refl e (λ h. rejected-walk h bs k w)
-  where
-    sooner : (o : Course) → later o ≡ rejectedAt (suc k) w → o ≡ rejectedAt k w
-    sooner (through i) p = let z : _≡_ {A = ℕ} 0 1 = cc in absurd (omega arith)
-    sooner (rejectedAt j v) p = cc
-
-    go : (s : Scanned) → scan g b ≡ s → resume s (λ (i : Scanner). scanAll i bs) ≡ rejectedAt (suc k) w → ((h : Scanner) → scanAll h bs ≡ rejectedAt k w → Stops h (take k bs) (getD bs k 0) w) → Stops g (b ∷ take k bs) (getD bs k 0) w
-    go (Accepted h) q p r = let t = r h (sooner (scanAll h bs) p) in (t .0, move q (t .1), t .2)
-    go (Rejected v) q p r = let z : 0 ≡ suc k = cc in absurd (omega arith)
-
-same-end : {g h i : Scanner} {bs : List ℕ} → Walk g bs h → Walk g bs i → h ≡ i
-same-end v w = let p = walk-course v in let q = walk-course w in cc
 
 module _ (c : Context) (bs : List ℕ) (k w : ℕ) where
   rejected-code : scanAll (between c) bs ≡ rejectedAt k w → CodeAt c bs k w
-  rejected-code e = let r = rejected-walk (between c) bs k w e in code-of c (r .0 .place) (r .0 .context) (take k bs) (getD bs k 0) w (r .1) (r .2)
+  rejected-code e = let r = rejected-walk (between c) bs k w e in code-of c (r .1 .0 .place) (r .1 .0 .context) (take k bs) (getD bs k 0) w (r .1 .1) (r .1 .2)
 
   code-rejected : (v : ℕ) → scanAll (between c) bs ≡ rejectedAt k v → CodeAt c bs k w → scanAll (between c) bs ≡ rejectedAt k w
   code-rejected v e x =
       let r = rejected-walk (between c) bs k v e in
       let s = code-is x in
-      e ∙ ap (rejectedAt k) (s .2 v (subst (λ (h : Scanner). scan h (getD bs k 0) ≡ Rejected v) (same-end (r .1) (s .1)) (r .2)))
+      e ∙ ap (rejectedAt k) (s .2 v (subst (λ (h : Scanner). scan h (getD bs k 0) ≡ Rejected v) (same-end (r .1 .1) (s .1)) (r .1 .2)))
 
 -- THE THEOREM
 
@@ -176,7 +157,7 @@ decides c bs = record {
   );
   wrong = λ k. (first-stop k, λ r. first-wrong k (r .0) (r .1));
   code = λ k w. (λ f. let r = first-stop k (f .0) in code-rejected c bs k w (r .0) (r .1) (f .1), λ e. (first-wrong k w e, rejected-code c bs k w e));
-  rejects = course-code (between c) bs;
+  rejects = λ k w e. let r = rejected-walk (between c) bs k w e in reject-code (r .1 .0) (getD bs k 0) w (r .1 .2);
 }
   where
     first-stop : (k : ℕ) → FirstWrong c bs k → (w : ℕ) × (scanAll (between c) bs ≡ rejectedAt k w)

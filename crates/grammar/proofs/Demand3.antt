@@ -8,7 +8,7 @@ use lib.ListN.{getD}
 use Rattle.codes.specs.Codes.{anyRejecting}
 use Rattle.grammar.specs.Grammar.{Context}
 use Rattle.grammar.specs.Scanner.{Scanner, Scanned, Accepted, Rejected, between, scan, Course, through, rejectedAt, later, resume, scanAll}
-use Rattle.grammar.specs.Verdict.{FirstWrong, CodeAt}
+use Rattle.grammar.specs.Verdict.{FirstWrong}
 use Rattle.grammar.specs.Machines.{Machine, Call, NotRefused, notRefused, final, bytes, told, wasRejected, NoneRejected, FirstRejected, ReturnedAt, Demand3}
 use Rattle.grammar.proofs.Follows.{Agree, Follows, along}
 use Rattle.grammar.proofs.Divisions.{one-division}
