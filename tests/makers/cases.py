@@ -1,13 +1,13 @@
 """The stored cases of the program `cases` and the lines that it must write, made with the model.
 
 A case is its kind (1 judge, 2 switch-on, 3 replay), its length (16 bits, little-endian) and its body, as crates/cases says. Text in
-quotes in the comments is from 01.
+quotes in the comments is from 01, or from 02 where a request is named.
 """
 import struct
 
 from makers.events import events
-from makers.sessions import session
 from makers.streams import every_item
+from makers.words import session
 from model.common import State
 from model.interfaces import step
 from model.judge import Context, verdict
@@ -15,18 +15,19 @@ from model.replay import FACTORY, WHOLE_CASE, packed, record, replay, switch_on
 
 # ---- the image of a state, as include/bridge.h lays it out ----
 
-def image(state, wait=0, left=0):
+def image(state, wait=0, left=0, drops=None):
     return bytes([state.flags, state.error, *state.ports, state.config, state.configured, state.size, *state.packet.to_bytes(8, "big"),
-                  *state.times, *state.eprom, state.iog, state.version, *state.serial, wait, left]) + bytes(9)
+                  *state.times, *state.eprom, state.iog, state.version, *state.serial, wait, left, *bytes(9),
+                  state.drops if drops is None else drops])
 
 # ---- the judge ----
 
 def after(text):
-    """The factory start after these bytes, which must wait for nothing."""
+    """The factory start after these events, which must wait for nothing."""
     state = State()
     for event in events(text):
         state = step(state, *event)[0]
-    assert not state.extended and not state.due
+    assert not state.waits()
     return state
 
 def stepped(state, data):
@@ -36,11 +37,12 @@ def stepped(state, data):
         state = step(state, 0, byte, bytes(64))[0]
         if state.error in (0x80, 0x84, 0x40):       # 02, Ask 1: "a rejected byte now returns one of the three"
             return f"wrong at {place} ({state.error:02x})"
-    return "open" if state.extended or state.due else "whole"
+    return "open" if state.waits() else "whole"
 
 def verdicts():
     def judged(front, text):
         state, data = after(front), bytes.fromhex(text)
+        assert not state.drops, front           # 02, Ask 2: "Demand 3 starts with no drop pending"
         line = verdict(Context(state.flags & 7, state.configured, state.bits()), data)
         assert stepped(after(front), data) == line, (front, text)
         return image(state) + data, line
@@ -64,6 +66,9 @@ def verdicts():
         for text in ("22 5A", "22", "20 40", "40", "41", "46", "44 01", "44 01 02", "44" + " 55" * 8, "4C" + " 55" * 9, "02 44", "02 46",
                      "02 44 01 02 03", "65" + " 11" * 9, "65" + " 11" * 8, "00 02 41", "02 42 09 46", "1D 0E", "1D 0E FF 04"):
             yield judged(front, text)
+    # 02, Ask 2: "the byte ends the drop and does nothing else": the context is that before the fault
+    for front, text in (("02 40 05 42 0C !81 00", "44 01 02"), ("!82 !83 02", "40"), ("01 !83 04", "20"), ("0B !82 5A", "04")):
+        yield judged(front, text)
 
 ONE_OPERAND = range(1, 14)      # of the image's waits; 8 is of I2C, 9 and 10 of SPI, 11 to 13 of 1-Wire
 EXTENDED, PACKET, EXCHANGE, TIMINGS = range(14, 18)
@@ -94,6 +99,22 @@ def starts_out_of_range():      # "1 | the state breaks its ranges:"
     yield from (image(after(front), TIMINGS, 1) for front in ("", "01", "02"))
     yield from (image(after("03"), TIMINGS, left) for left in (0, 10, 255))                     # "a timing wait not for 1 to 9"
 
+def waits_in_range():           # every wait, where it may be
+    yield from ((OWN.get(wait, ""), wait, 0) for wait in (*ONE_OPERAND, EXTENDED))
+    yield from (("02 40 00 42 09", wait, 2) for wait in (PACKET, EXCHANGE))
+    yield "03", TIMINGS, 9
+
+def drops_out_of_range():       # 02, Ask 2: "1 also for a drop beside a wait"
+    yield from (image(after(front), wait, left, 1) for front, wait, left in waits_in_range())
+    yield from (image(after("01"), drops=byte) for byte in (2, 255))                            # no state
+    yield image(after("03"), 11, 0, 2)
+    yield from (with_registers(front, flags=flags) for front, flags in (("!81", 3), ("01 !82", 0x21)))      # where 12 would apply
+    yield with_registers("02 !83", size=64)
+    yield image(after("01"), 11, 0, 1)                                  # with "a wait of an interface not selected" too
+
+def starts_that_drop():         # 02, Ask 2: "12 also for a pending drop"
+    yield from (image(after(front)) for front in ("!81", "!82", "!83", "01 !81", "02 40 04 42 09 !82 !83 !81", "03 !83"))
+
 def starts_that_wait():         # "12 | judge's start waits for something"
     yield from (image(after(OWN.get(wait, "")), wait) for wait in ONE_OPERAND)
     yield image(after(""), EXTENDED)
@@ -103,7 +124,7 @@ def starts_that_wait():         # "12 | judge's start waits for something"
     yield from (image(after("03"), TIMINGS, left) for left in (1, 9))
 
 def refused_starts():           # "The lowest number that applies is given"
-    for number, starts in ((1, starts_out_of_range()), (12, starts_that_wait())):
+    for number, starts in ((1, starts_out_of_range()), (1, drops_out_of_range()), (12, starts_that_wait()), (12, starts_that_drop())):
         yield from ((start + b"\xFF", f"refused {number}") for start in starts)
 
 # ---- switch-on ----
@@ -160,10 +181,17 @@ def switch_ons():
 
 # ---- the replay ----
 
+# 02, Ask 2: a byte dropped after each fault and after two and three, and the byte after it; a dropped 00, 02, 04, 1D and FF, with reports
+# and without; faults inside a wait for an operand, the byte after 1D, packet and timing bytes; an end with a drop, and with a wait
+DROPS = """07 !81 1A 1A | 07 !82 1A 1A | 07 !83 1A 1A | 07 !81 !82 1A 04 1A | 07 !83 !81 !82 1A 1A 04 | 07 01 !81 00 1A 04
+    | 01 !81 00 1A 04 | 07 !83 02 1A 04 | 07 !82 04 04 04 | !82 04 04 04 | 07 !81 FF 04 04 | !81 FF 04 04 | 07 !83 1D 0C 04
+    | 07 0B !81 5A 0C 04 | 07 1D !82 !83 0F 04 | 1D 0E !83 44 1D 0F 04 | 02 40 00 42 09 44 !81 AA !82 01 45 04
+    | 03 65 01 02 03 04 !83 05 06 07 08 09 66 04 | !81 | 0B !81"""
+
 def transcripts():
     assert replay(WHOLE_CASE[0]) == WHOLE_CASE[1]
     given = [WHOLE_CASE[0], b"", session("07 0B"), session("07 17"), session("07") + b"\x01", session("07") + b"\x01\x10\x01\x00",
-             session("07 1A")[:-1], session("07") + record(9, b""), session("07") + record(2, b"\x80")]
+             session("07 1A")[:-1], session("07") + record(9, b""), session("07") + record(2, b"\x80"), *map(session, DROPS.split("|"))]
     yield from ((data, f"transcript {replay(data).hex()}") for data in given)
 
 # ---- the file ----

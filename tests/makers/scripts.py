@@ -40,6 +40,23 @@ def packets():                  # of many sizes, with an operand less, as many a
         for count in (right - 1, right, right + 1):
             yield SIZES[size % 4] % size + (b"LoadPaket_SPI ", b"FastSendPaket_SPI ")[size % 2] + listed(count) + b"\n"
 
+# 02, Ask 2: what stands before a packet, and how many bytes the packet then has. A fault between items, or several, drop a byte: of the
+# size command, of the interface's, of a packet's own statement, of a reset, of 1D; a fault inside an item drops none.
+DROPS = r"""
+2 send 02 42 10|1 send 02\nfault frame\nsend 42 10|1 InterfaceChoiceSPI\nfault parity\nLoadPaketSize_SPI 10
+|2 InterfaceChoiceSPI\nfault frame\nfault overrun\nfault parity\nResetDevice\nLoadPaketSize_SPI 10|1 fault frame\nsend 02 42 10
+|2 send 02 42 10\nfault overrun\nsend 00|1 send 02 42 10\nfault overrun\nsend 00 00|2 send 02 42 10\nfault frame
+|2 send 02 42 10\nfault frame\nfault frame|2 send 02 42 10\nfault frame\nsamples 00 00\n# 00\nResetDevice
+|2 InterfaceChoiceSPI\nLoadConfig_SPI 04\nLoadPaketSize_SPI 10\nfault parity\nLoadPaket_SPI 42 09\nfault frame\nsend 42 11
+|1 send 02 40 04 42 10\nfault parity\nFastSendPaket_SPI 00 02|3 send 02 40 04 42 10\nfault parity\nsend 4C 42 14
+|2 send 02 FF\nfault frame\nsend 42 42 10|2 send 02\nfault frame\nLoadIOGTime 42\nsend 10|1 send 02 1D\nfault frame\nsend 42 10 0A
+|2 send 02 1D\nfault frame\nsend 0A 42 10|2 send 02 1D 00\nfault frame\nsend 42 0A 42 10|2 send 02 1D 0E\nfault parity\nsend 42 42 10
+|2 send 02 42\nfault frame\nfault parity\nsend 10|3 send 02 42 10 40\nfault frame\nsend 42 42 14
+|2 send 02 42 10 0B\nfault parity\nResetDevice|2 send 02 40 04 42 10 44\nfault frame\nResetDevice\nfault overrun\nResetDevice
+|2 send 02 40 04 42 10 44 01\nfault frame\nsend 00
+|1 send 02 40 04 42 10 44 01\nfault frame\nsend 02 00|3 send 03 65 01 02\nfault frame\nsend 03 04 05 06 07 08 09 02 42 18
+|4 send 02\nfault frame\nsend 42\nfault parity\nsend 42 42 20|2 send 02 42 10 22\nfault frame\nInterfaceChoice1W"""
+
 GOOD = r"""
 |\n|\n\n\n| |\t\r \r\n|# a comment|#|##\n#\n|  # a comment\n\n|send 00|send 00\n|send 00 01 fF Aa|send\t0A\r\n
 |\r\nsend  0a  \t 0B \r\n|samples 00|samples 00 x 64|samples 00 x 1 01 x 2 FF x 3|send 5A x 1|send 5A x 99 00
@@ -75,10 +92,21 @@ WRONG = r"""
 |send 02 42 10\nLoadPaket_SPI 01|send 02 42 10 01\nLoadPaket_SPI 00|send 02 42 10 00\nLoadPaket_SPI 00 00
 |send 02 1D 42 10\nLoadPaket_SPI 00 00"""
 
+def read(word):
+    return word.encode("ascii").decode("unicode_escape").encode("latin-1")
+
+def drops():                    # each with an operand less, as many as it takes, and one more
+    for word in DROPS.replace("\n", "").split("|"):
+        right, front = int(word[0]), read(word[2:]) + b"\n"
+        for count in (right - 1, right, right + 1):
+            text = front + b"LoadPaket_SPI " + listed(count)
+            assert line_of(text).startswith(b"good") == (count == right), text
+            yield text
+
 def by_hand():
     for words, good in ((GOOD, True), (WRONG, False)):
         for word in words.strip("\n|").replace("\n", "").split("|") + [""] * good:
-            text = word.encode("ascii").decode("unicode_escape").encode("latin-1")
+            text = read(word)
             assert line_of(text).startswith(b"good") == good, text
             yield text
 
@@ -114,10 +142,10 @@ def random_line(rng, stream):
         if rng.random() < 0.3:
             weight = [12] * 8 + [2] * 4 + [1] * 5
             words += [b"%02X" % rng.randrange(256), b"x", rng.choices(COUNTS, weight)[0].encode()]
-    elif kind < 8:
+    elif kind < 8 or kind == 10:
         words = [b"fault", rng.choice(list(FAULTS))]
     elif kind < 9:
-        words = [b"send", b"02", b"42", b"%02X" % rng.randrange(256)]
+        words = [b"send", b"02", b"42", b"%02X" % rng.randrange(256)][:rng.choice((3, 4, 4))]   # now and then the size is still to come
     elif kind < 10:
         name = rng.choice((b"LoadPaket_SPI", b"FastSendPaket_SPI"))
         words = [name] + random_list(rng, takes(name, stream) + (rng.random() < 0.1))
@@ -148,6 +176,7 @@ def random_script(seed):
 def stored():
     yield from every_command()
     yield from packets()
+    yield from drops()
     yield from by_hand()
     yield from long_lists()
     yield from map(random_script, range(100))

@@ -8,49 +8,13 @@ import random
 import struct
 
 from makers.events import LOOK, noise, spi_round
-from model.common import COMMON, SEEN
+from makers.faults import drops_in_files, dropped_bytes, faults, inside_items, rows_of_faults
+from makers.words import CONTEXTS, DEEP_LOOK, NAMED, PORTS, WAYS, hexes, operands, session
+from model.common import COMMON, DROPPED, SEEN
 from model.interfaces import TABLES
 from model.replay import BYTES, END, FAULT, FAULTS, LONGEST_BODY, LONGEST_SESSION, REFUSAL, SAMPLES, WHOLE_CASE, record, replay
 
-# ---- sessions in words: "22" a byte, "17:5A" one after a record of samples, ":5A" a record of samples
-# alone, "!81" a record of a fault, "|" the end of a record of bytes ----
-
-def pieces(text):
-    for word in text.split():
-        data, colon, samples = word.partition(":")
-        if word[0] in "!|":
-            yield (FAULT if word[0] == "!" else 0), bytes.fromhex(word[1:])
-            continue
-        if colon:
-            yield SAMPLES, bytes.fromhex(samples)
-        if data:
-            yield BYTES, bytes.fromhex(data)
-
-def session(text):
-    out = b""
-    for kind, group in itertools.groupby(pieces(text), key=lambda piece: piece[0]):
-        bodies = [body for _, body in group]
-        if kind == BYTES:       # bytes in a row are one record
-            bodies = [b"".join(bodies)]
-        out += b"".join(record(kind, body) for body in bodies if kind)
-    return out
-
-def hexes(values):
-    return " ".join(f"{value:02X}" for value in values)
-
-CONTEXTS = {"none": "00", "I2C": "01", "SPI unconfigured": "02", "SPI": "02 40 05 42 0C 44 34 12", "1-Wire": "03",
-            "1-Wire with other timings": "03 65 10 25 47 C4 86 CC F9 BF BC"}
-WAYS = ("08", "07")             # "07/08 set/clear reports"
-NAMED = sorted(byte for name, table in TABLES.items() if name != "extended" for byte in table)
-PORTS = "0B 5A 0D A5 0F 2A 11 15 13 94 15 68 "
-DEEP_LOOK = LOOK + "02 41 43 45 4A 03 66 1D 0F 04"     # also the SPI settings, packet, timings and IOG count
 ALL_OPEN = ("0B", "0D", "0F", "11", "13", "15", "1D", "1D 0E", "1D 00")
-
-def operands(byte, n=12):       # "none, one, nine (65) or ceil(N/8) (44, 4C)"
-    count = {0x65: 9, 0x44: (n + 7) // 8, 0x4C: (n + 7) // 8}.get(byte)
-    if count is None:           # 1D's one byte is a bad one here; its wait ends at a good one in the look
-        count = int(byte in (0x0B, 0x0D, 0x0F, 0x11, 0x13, 0x15, 0x1D, 0x22, 0x40, 0x42, 0x61, 0x63, 0x67))
-    return hexes((0xA5 + 0x17 * k) % 256 for k in range(count))
 
 def whole_case():
     yield WHOLE_CASE[0]
@@ -94,23 +58,6 @@ def packets():
             operand = (n + 64 * (k % 4)) % 256      # "register = (operand + 63) mod 64"
             words += spi_round(config, operand, 64 * k + config)
         yield session(words)
-
-# ---- faults ----
-
-ITEMS = [("00", "1A"), ("00", "0B 5A"), ("00", "15 A5"), ("00", "1D 0A"), ("00", "1D 0E 44"), ("01", "20"), ("01", "22 C3"),
-         ("01", "24"), ("02", "40 06"), ("02", "42 09"), ("02 40 03 42 0C", "44 34 12"), ("02", "44"), ("02", "41"),
-         ("02 40 04 42 0C", "4C 34 12"), ("02 40 02 42 0C", "4B"), ("03", "61 A5"), ("03", "63 01"), ("03", "67 0F"),
-         ("03", "62"), ("03", "65 01 02 03 04 05 06 07 08 09")]
-
-def faults():                   # "A fault returns its code; the byte it came with is lost, any wait stays."
-    for reports, (context, item), fault in itertools.product(WAYS, ITEMS, FAULTS):
-        item, words = item.split(), f"{reports} {context} "
-        for place in range(len(item) + 1):
-            with_fault = item[:place] + [f"!{fault:X}"] + item[place:]
-            words += f":{noise(16, place)} {' '.join(with_fault)} 04 "
-        everywhere = f" !{fault:X} ".join([""] + item + [""])
-        yield session(f"{words} :{noise(16, 9)} {everywhere} {LOOK} !{fault:X}")
-    yield from (session(f"!{fault:X} !{fault:X} 07 !{fault:X} 04") for fault in FAULTS)
 
 # ---- samples ----
 
@@ -179,10 +126,14 @@ def random_bytes(rng, count):
     choice = rng.choice((range(256), NAMED, range(0x6B), *(list(COMMON) + 3 * list(TABLES[i]) for i in (1, 2, 4))))
     return bytes(rng.choices([byte for byte in choice if byte > 3 or rng.random() < 0.3], k=count))
 
+def random_faults(rng):         # one or several in a row; now and then a byte follows that would do much if it were not dropped
+    many = b"".join(record(FAULT, bytes([rng.choice(FAULTS)])) for _ in range(rng.choice((1, 1, 2, 3))))
+    return many + record(BYTES, bytes([rng.choice((0x00, 0x00, 0x02, 0x04, 0x1D, 0xFF))])) * (rng.random() < 0.4)
+
 def random_record(rng):
-    kind = rng.choices((BYTES, FAULT, SAMPLES), (6, 1, 3))[0]
+    kind = rng.choices((BYTES, FAULT, SAMPLES), (6, 1.5, 3))[0]
     if kind == FAULT:
-        return record(FAULT, bytes([rng.choice(FAULTS)]))
+        return random_faults(rng)
     if kind == SAMPLES:
         return record(SAMPLES, bytes(rng.choices((0, 0, 0, 1, 0x80, 0xFF, 0x5A), k=rng.randrange(300))))
     return record(BYTES, random_bytes(rng, rng.randrange(30)))
@@ -204,9 +155,9 @@ def random_sessions():
 
 # ---- the file ----
 
-PARTS = (whole_case, every_command, unnamed_bytes, extended_bytes, open_ends, packets, faults, running_out, replacing,
-         refusals, bodies, empty_records, long_sessions, random_sessions)
-SOUND = (whole_case, every_command, unnamed_bytes, extended_bytes, open_ends, packets, faults)      # none may be refused
+SOUND = (whole_case, every_command, unnamed_bytes, extended_bytes, open_ends, packets, faults, dropped_bytes, rows_of_faults,
+         inside_items)          # none may be refused
+PARTS = (*SOUND, drops_in_files, running_out, replacing, refusals, bodies, empty_records, long_sessions, random_sessions)
 
 def ending(transcript):         # the kind of the last record, and the number in it if it is a refusal
     place = kind = 0
@@ -225,7 +176,8 @@ def files():
             assert end == (END, 0) or part not in SOUND, (part.__name__, given.hex())
             endings[end[1]] = endings.get(end[1], 0) + 1
             out.append(struct.pack("<HI", len(given), len(transcript)) + given + transcript)
-    assert SEEN == {(table, byte) for table in TABLES for byte in TABLES[table]} and len(PAIRS) == 512
+    commands = {(table, byte) for table in TABLES for byte in TABLES[table]}
+    assert SEEN == commands | {(DROPPED, byte) for byte in range(256)} and len(PAIRS) == 512
     assert set(endings) == {0, 2, 5, 6, 7, 8, 9, 10} and len(out) >= 400
     whole = b"".join(out)
     assert len(whole) < 4_000_000, len(whole)

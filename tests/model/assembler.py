@@ -1,5 +1,5 @@
-"""A second assembler, which follows the description of the format in docs/SCRIPTS.md, with the command list 001 and the
-grammar of 01 as it needs them.
+"""A second assembler, which follows the description of the format in docs/SCRIPTS.md, with the command list 001, the
+grammar of 01 and the drop of 02, Ask 2, as it needs them.
 """
 import collections
 import re
@@ -47,12 +47,20 @@ for code, name in enumerate(EXTENDED.split()):
         COMMANDS[name.encode()] = bytes([0x1D, code])
 KNOWN = {opening[0] for opening in COMMANDS.values()}
 
-class Stream:                   # where bytes lead from the factory start; a rejected byte changes nothing
+class Stream:                   # where bytes and faults lead from the factory start; a rejected byte changes nothing
     def __init__(self):
         self.interface, self.configured, self.bits = 0, False, 1
         self.extended, self.command, self.left = False, None, 0
+        self.drops = False      # after a fault between items, until a byte comes
+
+    def fault(self):            # 02, Ask 2: "Several faults in a row drop one byte. Inside an item the rule of 01 stays"
+        if not self.extended and not self.left:
+            self.drops = True
 
     def take(self, byte):
+        if self.drops:          # 02, Ask 2: "the byte ends the drop and does nothing else"
+            self.drops = False
+            return
         if self.left:
             self.left -= 1
         elif self.extended:
@@ -69,8 +77,11 @@ class Stream:                   # where bytes lead from the factory start; a rej
         if not self.left:
             self.end(byte)
 
-    def follow(self, said):     # what a line says: only bytes lead anywhere
-        for byte in said[1] if said and said[0] == BYTES else b"":
+    def follow(self, said):     # what a line says; samples lead nowhere
+        kind, body = said or (SAMPLES, b"")
+        if kind == FAULT:
+            self.fault()
+        for byte in body if kind == BYTES else b"":
             self.take(byte)
 
     def end(self, last):        # of an item, with its last byte

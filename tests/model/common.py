@@ -1,6 +1,6 @@
 """A model of the bridge, written from 01 and 02 alone: the state, an event's turn, and the common and extended commands.
 
-It shares no line with the definitions. Text in quotes in the comments is from 01.
+It shares no line with the definitions. Text in quotes in the comments is from 01, or from 02 where a request is named.
 """
 import copy
 
@@ -14,7 +14,8 @@ LINES, PORT_LINE = ("SCL", "SDA", "CS", "SCK", "MOSI", "MISO", "SS", "DQ", "PB7"
 I2C, SPI, ONE_WIRE, REPORTS, AUTOLOAD = 1, 2, 4, 8, 16
 DDRB, PORTB, DDRC, PORTC, DDRD, PORTD = range(6)
 PROTECTED = (0x00, 0x00, 0xC0, 0xC0, 0x23, 0x23)    # "Protected bits ...: C 6, 7; D 0, 1, 5."
-SEEN = set()        # (table, byte) of every command carried out, to show that none is left out
+DROPPED = "dropped"
+SEEN = set()        # (table, byte) of every command carried out, (DROPPED, byte) of every byte dropped, to show that none is left out
 
 class State:
     # "Start is factory, 00 seven times and FF three, IOG count FF, version and serial 0"
@@ -26,10 +27,13 @@ class State:
         self.iog, self.version, self.serial = 0xFF, version, list(serial)
         self.extended = False                                   # the wait of 1D
         self.due, self.finish, self.gathered = 0, None, []      # every other wait
+        self.drops = False                      # 02, Ask 2: "The state remembers the drop until that byte .. comes"
     def bits(self):                             # "N ... the size in bits, 1 to 64 (register + 1)"
         return self.size + 1
     def packet_bytes(self):                     # "ceil(N/8)"
         return (self.bits() + 7) // 8
+    def waits(self):                            # "for one named operand, or for so many more packet or timing bytes"
+        return self.extended or self.due > 0
 
 class Refused(Exception):      # carries the number of the refusal
     pass

@@ -2,8 +2,8 @@
 
 Text in quotes in the comments is from 01, or from 02 where a request is named.
 """
-from model.common import (COMMON, EXTENDED, I2C, ONE_WIRE, SEEN, SPI, WAIT_MS, WAIT_US, Refused, State, Turn, awaits, done, just,
-                          lines, read_line, sends)
+from model.common import (COMMON, DROPPED, EXTENDED, I2C, ONE_WIRE, SEEN, SPI, WAIT_MS, WAIT_US, Refused, State, Turn, awaits, done,
+                          just, lines, read_line, sends)
 
 # ---- I2C ----
 
@@ -160,9 +160,19 @@ def carry_out(t, table, byte):
     t.state.extended = False
     return TABLES[table][byte](t)
 
+def fault(t, code):
+    # "A fault returns its code; the byte it came with is lost, any wait stays." 02, Ask 2: "Between commands, then, a fault also makes
+    # the bridge drop the next good byte without a code. Several faults in a row drop one byte. Inside an item the rule of 01 stays"
+    t.returns(code)
+    if not t.state.waits():
+        t.state.drops = True
+
 def receive(t, byte):
     s = t.state
-    if s.extended:
+    if s.drops:         # 02, Ask 2: "the byte ends the drop and does nothing else", "even a 00"
+        SEEN.add((DROPPED, byte))
+        s.drops = False
+    elif s.extended:
         carry_out(t, "extended", byte)
     elif s.due == 0:
         carry_out(t, "common" if byte in COMMON else s.flags & 7, byte)
@@ -174,8 +184,8 @@ def receive(t, byte):
 
 def step(state, kind, value, samples):      # gives new state, outcome, samples used, replies, actions
     t = Turn(state, samples)
-    try:            # "A fault returns its code; the byte it came with is lost, any wait stays."
-        t.returns(value) if kind == 1 else receive(t, value)
+    try:            # "An event is a received byte, or a line fault carrying which of three it was."
+        (fault if kind == 1 else receive)(t, value)
     except Refused as refusal:              # "Each returns what it was given, with zero counts"
         return state, refusal.args[0], 0, [], []
     assert len(t.actions) * 4 <= 2048 and len(t.replies) <= 64      # so 3 and 4 do not arise

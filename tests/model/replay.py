@@ -144,10 +144,6 @@ class Run:
                 self.event(int(kind == FAULT), session[at], at)
         return end
 
-    def waiting(self):
-        # "for nothing, for one named operand, or for so many more packet or timing bytes"
-        return self.state.extended or self.state.due > 0
-
 def refused(number, place):
     # "kind 01FF in place of 0104: number (16 bits), place (32 bits ...)"
     return record(REFUSAL, struct.pack("<HI", number, place))
@@ -163,7 +159,8 @@ def replay(session):
             place = run.take(session, place)
     except Ended as end:                # "In a replay, earlier output stays."
         return run.out + refused(*end.args)
-    return run.out + record(END, bytes([run.waiting()]))    # "last 0104 with one byte, 1 if waiting"
+    # "last 0104 with one byte, 1 if waiting"; a pending drop (02, Ask 2) is no wait
+    return run.out + record(END, bytes([run.state.waits()]))
 
 # ---- checks ----
 

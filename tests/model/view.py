@@ -1,7 +1,7 @@
-"""What `view` must write, from the model alone. Text in quotes in the comments is from 01."""
+"""What `view` must write, from the model alone. Text in quotes in the comments is from 01, or from 02 where a request is named."""
 from model import interfaces
-from model.common import (COMMON, DIRECTION, I2C, LATCH, LINES, ONE_WIRE, PORT_LINE, SAMPLE, SAMPLE_PORT, SPI, WAIT_IOG, WAIT_MS,
-                          WAIT_US, Turn)
+from model.common import (COMMON, DIRECTION, DROPPED, I2C, LATCH, LINES, ONE_WIRE, PORT_LINE, SAMPLE, SAMPLE_PORT, SPI, WAIT_IOG,
+                          WAIT_MS, WAIT_US, Turn)
 from model.interfaces import TABLES
 from model.replay import Ended, LONGEST_SESSION, Run
 
@@ -64,7 +64,7 @@ class Viewed(Run):
         if self.state.extended:
             return "waits for an extended command"
         if not self.state.due:
-            return "idle"
+            return "drops the next byte" if self.state.drops else "idle"
         table, byte = self.opened
         if (table, byte) == (ONE_WIRE, 0x65):
             return "waits for " + plural(self.state.due, "timing byte")
@@ -75,6 +75,8 @@ class Viewed(Run):
     def command(self, byte):
         """What a byte is to the bridge as it stands, and which row's, if it is a command."""
         s = self.state
+        if s.drops:             # 02, Ask 2: "the byte ends the drop and does nothing else"
+            return DROPPED, None
         if s.extended:
             return NAME.get(("extended", byte), "unknown"), ("extended", byte)
         if s.due:
