@@ -50,7 +50,8 @@ pub fn judge(state: &State, bytes: &[u8]) -> Judgement {
     if !state.in_range() {
         return Judgement::Refused(1);
     }
-    if state.wait != Wait::Nothing {
+    // 02, Ask 2: "12 also for a pending drop"
+    if state.wait != Wait::Nothing || state.drops {
         return Judgement::Refused(12);
     }
     let mut context = Context::of(state);

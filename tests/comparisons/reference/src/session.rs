@@ -33,7 +33,7 @@ struct Run<'a> {
 pub fn replay(session: &[u8]) -> Vec<u8> {
     let mut run = Run { state: factory_start(), lines: Lines::new(&[]), transcript: Vec::new() };
     match run.session(session) {
-        // "last 0104 with one byte, 1 if waiting"
+        // "last 0104 with one byte, 1 if waiting"; a pending drop (02, Ask 2) is no wait
         Ok(()) => {
             let waiting = u8::from(run.state.wait != Wait::Nothing);
             write_record(&mut run.transcript, END, &[waiting]);

@@ -154,6 +154,8 @@ pub struct State {
     pub wait: Wait,
     /// The packet or timing bytes received so far in this wait, the rest 0.
     pub held: [u8; 9],
+    /// 02, Ask 2: "The state remembers the drop until that byte, even a 00, comes".
+    pub drops: bool,
 }
 
 impl State {
@@ -213,6 +215,8 @@ impl State {
             Wait::Timings { left } => !(1..=9).contains(&left),
             _ => false,
         };
-        !(two_interfaces || unused_flags || size || config || protected || not_selected || count)
+        // 02, Ask 2: "1 also for a drop beside a wait"
+        let drop = self.drops && self.wait != Wait::Nothing;
+        !(two_interfaces || unused_flags || size || config || protected || not_selected || count || drop)
     }
 }

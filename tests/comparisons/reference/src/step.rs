@@ -2,7 +2,7 @@
 
 use crate::actions::Lines;
 use crate::state::{
-    Event, Operand, State, Wait, I2C_SEL, ONE_WIRE_SEL, SPI_SEL, UNKNOWN_COMMAND, WRONG_INTERFACE,
+    Event, Fault, Operand, State, Wait, I2C_SEL, ONE_WIRE_SEL, SPI_SEL, UNKNOWN_COMMAND, WRONG_INTERFACE,
 };
 use crate::{common, extended, i2c, one_wire, spi};
 
@@ -75,16 +75,30 @@ fn attempt(
 /// Takes one event in a state within its ranges, with room for all it does.
 pub fn take(state: &mut State, event: Event, lines: &mut Lines) {
     let byte = match event {
-        // "A fault returns its code; the byte it came with is lost, any wait stays."
-        Event::Fault(fault) => return lines.returns(state, fault.code()),
+        Event::Fault(which) => return fault(state, which, lines),
         Event::Byte(byte) => byte,
     };
+    // 02, Ask 2: "the byte ends the drop and does nothing else"
+    if state.drops {
+        state.drops = false;
+        return;
+    }
     match state.wait {
         Wait::Nothing => command(state, byte, lines),
         Wait::Extended => extended::command(state, byte, lines),
         Wait::One(to) => operand(state, to, byte, lines),
         Wait::Packet { left, exchange } => spi::packet_byte(state, byte, left, exchange, lines),
         Wait::Timings { left } => one_wire::timing_byte(state, byte, left, lines),
+    }
+}
+
+/// "A fault returns its code; the byte it came with is lost, any wait stays." 02, Ask 2: "Between
+/// commands, then, a fault also makes the bridge drop the next good byte without a code. Several
+/// faults in a row drop one byte. Inside an item the rule of 01 stays".
+fn fault(state: &mut State, which: Fault, lines: &mut Lines) {
+    lines.returns(state, which.code());
+    if state.wait == Wait::Nothing {
+        state.drops = true;
     }
 }
 

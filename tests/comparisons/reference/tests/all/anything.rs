@@ -34,6 +34,7 @@ fn any_state(dice: &mut Dice) -> State {
     state.packet = std::array::from_fn(|_| dice.byte());
     state.held = std::array::from_fn(|_| dice.byte());
     state.wait = any_wait(dice);
+    state.drops = dice.below(8) == 0;
     state
 }
 

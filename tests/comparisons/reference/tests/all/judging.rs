@@ -7,7 +7,13 @@ use reference::{factory_start, judge, step, Event, Judgement, State, Wait};
 fn refusals_of_the_judge() {
     let waiting = reporting(&[0x1D]);
     assert_eq!(judge(&waiting, &[]), Judgement::Refused(12));
-    assert_eq!(judge(&State { size: 64, ..waiting }, &[]), Judgement::Refused(1));
+    assert_eq!(judge(&State { size: 64, ..waiting.clone() }, &[]), Judgement::Refused(1));
+    // 02, Ask 2: "12 also for a pending drop", and 1 for one beside a wait
+    let dropping = State { drops: true, ..factory_start() };
+    assert_eq!(judge(&dropping, &[]), Judgement::Refused(12));
+    assert_eq!(judge(&dropping, &[0x00]), Judgement::Refused(12));
+    assert_eq!(judge(&State { drops: true, ..waiting }, &[]), Judgement::Refused(1));
+    assert_eq!(judge(&State { config: 8, ..dropping }, &[]), Judgement::Refused(1));
 }
 
 #[test]

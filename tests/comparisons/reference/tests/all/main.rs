@@ -3,6 +3,7 @@
 mod anything;
 mod buses;
 mod commands;
+mod drops;
 mod edges;
 mod judging;
 mod refusals;

@@ -44,6 +44,10 @@ fn each_broken_range_gives_1() {
         State { wait: packet(3), ..spi.clone() },
         State { wait: Wait::Timings { left: 0 }, ..wire.clone() },
         State { wait: Wait::Timings { left: 10 }, ..wire.clone() },
+        State { wait: Wait::Extended, drops: true, ..i2c.clone() },
+        State { wait: Wait::One(Operand::IogCount), drops: true, ..i2c.clone() },
+        State { wait: packet(2), drops: true, ..spi.clone() },
+        State { wait: Wait::Timings { left: 9 }, drops: true, ..wire.clone() },
     ];
     for state in broken {
         assert_eq!(outcome(&state, 0x1A, 0, 0, 0), 1, "{state:?}");
@@ -58,8 +62,10 @@ fn states_at_the_edge_of_their_ranges_are_taken() {
     let whole = [
         State { wait: Wait::Packet { left: 2, exchange: false }, held: [9; 9], ..spi.clone() },
         State { ddrd: 0xFC, portd: 0xFC, ddrc: 0x3F, portc: 0x3F, ..spi },
-        State { wait: Wait::Timings { left: 9 }, ..wire },
-        State { wait: Wait::Extended, ..i2c },
+        State { wait: Wait::Timings { left: 9 }, ..wire.clone() },
+        State { wait: Wait::Extended, ..i2c.clone() },
+        State { drops: true, ..wire },
+        State { drops: true, held: [9; 9], ..i2c },
     ];
     for state in whole {
         assert_ne!(outcome(&state, 0x1A, 0, 0, 0), 1, "{state:?}");

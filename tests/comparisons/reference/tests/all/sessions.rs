@@ -64,6 +64,15 @@ fn faults_are_sent_and_leave_the_wait() {
 }
 
 #[test]
+fn a_drop_lasts_from_record_to_record_and_is_no_wait() {
+    let front = [record(1, &[0x07]), record(2, &[0x81]), record(1, &[]), record(3, &[0x5A])].concat();
+    let before = [record(0x0101, &[0]), record(0x0101, &[0x81])].concat();
+    assert_eq!(replay(&front), [&before[..], &end(0)].concat());
+    let port = [record(0x0102, &[7, 16, 0, 0]), record(0x0101, &[0x5A])].concat();
+    assert_eq!(replay(&[&front[..], &record(1, &[0x17, 0x17])].concat()), [before, port, end(0)].concat());
+}
+
+#[test]
 fn refusal_2_gives_the_event_byte() {
     // the byte at 4 is taken, that at 5 needs a sample, and the unread rest is not run
     let session = record(1, &[0x1A, 0x17, 0x1A]);

@@ -26,6 +26,7 @@ fn factory_start_state() {
     assert_eq!((state.eprom, state.iog, state.version, state.serial), (FACTORY, 0xFF, 0, [0; 4]));
     assert_eq!(state.timings, [0x86, 0xC4, 0xCC, 0xBC, 0xBF, 0xF9, 0xBC, 0xBF, 0xC7]);
     assert_eq!((state.wait, state.held, state.packet, state.error), (Wait::Nothing, [0; 9], [0; 8], 0));
+    assert!(!state.drops);
 }
 
 #[test]
