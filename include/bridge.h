@@ -24,9 +24,10 @@
  *              byte after 1D; 15 packet bytes, 16 packet bytes and then an exchange, 17 timing bytes
  *   45    1    how many more bytes are waited for, with 15 to 17; else 0
  *   46    9    the packet or timing bytes held so far
+ *   55    1    1 if the next byte is dropped, after a line fault between commands, else 0
  *
- * Another length, a byte at 9 that is not 0 or 1, a byte at 44 over 17, or one at 45 that is not 0 with a wait of 0 to 14, is no
- * state: refusal 1. */
+ * Another length, a byte at 9 or 55 that is not 0 or 1, a byte at 44 over 17, or one at 45 that is not 0 with a wait of 0 to 14, is
+ * no state: refusal 1. A state that waits and has a 1 at 55 breaks its ranges. */
 #ifndef BRIDGE_H
 #define BRIDGE_H
 
@@ -37,7 +38,7 @@
 extern "C" {
 #endif
 
-#define BRIDGE_STATE_SIZE 55
+#define BRIDGE_STATE_SIZE 56
 
 /* Kinds of events, as those of a session's records. */
 #define BRIDGE_BYTE 1
@@ -54,7 +55,9 @@ uint8_t bridge_factory_start(uint8_t *state, size_t state_size);
 /* One event: a received byte (kind BRIDGE_BYTE, the byte), or a line fault (BRIDGE_FAULT, 81 frame, 82 overrun, 83 parity, hex).
  * Samples are used from the mark `sampled` on; actions (four bytes each) and reply bytes are written from the marks `acted` and
  * `replied` on, in bytes. Taken, the new state is in `state`, and the counts say how many samples were used, reply bytes and
- * actions written. Refused with 1 to 4 as in document 01, 8 for another kind, 9 for another fault. */
+ * actions written. A fault returns its code and leaves any wait; where nothing is waited for, the next byte is dropped: it does
+ * nothing but end the drop, and several faults in a row drop one byte. Refused with 1 to 4 as in document 01, 8 for another kind, 9 for
+ * another fault. */
 uint8_t bridge_step(uint8_t *state, size_t state_size, uint8_t kind, uint8_t value,
                     const uint8_t *samples, size_t samples_size, size_t sampled,
                     uint8_t *actions, size_t actions_size, size_t acted,
@@ -62,8 +65,8 @@ uint8_t bridge_step(uint8_t *state, size_t state_size, uint8_t kind, uint8_t val
                     size_t *samples_used, size_t *reply_count, size_t *action_count);
 
 /* Judges command bytes from a start: the verdict, and with BRIDGE_WRONG the place and the code that bridge_step would return there (80
- * unknown command, 84 wrong interface, 40 no SPI configuration, hex), else 0 in both. Refused with 1, or 12 if the start waits; verdict,
- * place and code then stay as they were. */
+ * unknown command, 84 wrong interface, 40 no SPI configuration, hex), else 0 in both. Refused with 1, or 12 if the start waits or drops
+ * the next byte; verdict, place and code then stay as they were. */
 uint8_t bridge_judge(const uint8_t *state, size_t state_size, const uint8_t *bytes, size_t bytes_size,
                      uint8_t *verdict, size_t *place, uint8_t *code);
 

@@ -209,7 +209,7 @@ pub fn replay(cursor: &mut Cursor, session: &[u8], output: &mut [u8], written: &
 }
 
 /// How many bytes a state has.
-pub const STATE_SIZE: usize = 55;
+pub const STATE_SIZE: usize = 56;
 /// The kind of event that is a received byte.
 pub const BYTE: u8 = 1;
 /// The kind of event that is a line fault.

@@ -1,9 +1,11 @@
 #![doc = include_str!("../README.md")]
 
 pub mod calls;
+mod replay;
 
-use calls::{Counts, Cursor};
+use calls::Counts;
 pub use calls::{REPLAY_ROOM, STATE_SIZE};
+pub use replay::Replay;
 use std::fmt;
 
 /// What [`State::waits_for`] answers for a state between commands.
@@ -17,7 +19,7 @@ pub const MOST_REPLIES: usize = 10;
 
 /// A state of the bridge, as the bytes that `include/bridge.h` lays out.
 ///
-/// Any 55 bytes can be made one; a call that is given bytes which are no state, or one out of its ranges, answers refusal 1.
+/// Any 56 bytes can be made one; a call that is given bytes which are no state, or one out of its ranges, answers refusal 1.
 #[derive(Clone, Copy, PartialEq, Eq, Hash)]
 pub struct State([u8; STATE_SIZE]);
 
@@ -53,6 +55,11 @@ impl State {
     /// What is waited for, by the header's numbers; [`WAITS_FOR_NOTHING`] between commands.
     pub fn waits_for(&self) -> u8 {
         self.0[44]
+    }
+
+    /// Whether the next byte is dropped, as it is after a line fault between commands.
+    pub fn drops_next(&self) -> bool {
+        self.0[55] == 1
     }
 }
 
@@ -92,7 +99,7 @@ impl Fault {
 pub enum Event {
     /// A received byte.
     Byte(u8),
-    /// A line fault; the byte that it came with is lost.
+    /// A line fault; the byte that it came with is lost, and between commands the next one is dropped.
     Fault(Fault),
 }
 
@@ -117,7 +124,7 @@ impl fmt::Display for Refusal {
             9 => "a fault body is not one byte of 81, 82, 83 hex",
             10 => "session over 32,768 bytes",
             11 => "factory image not good",
-            12 => "the judge's start waits for something",
+            12 => "the judge's start waits for something or drops the next byte",
             _ => "no number of document 01",
         };
         write!(f, "refusal {}: {reason}", self.0)
@@ -185,7 +192,7 @@ pub enum Verdict {
     },
 }
 
-/// Judges command bytes from a start between commands. Refused with 1, or with 12 if the start waits.
+/// Judges command bytes from a start between commands. Refused with 1, or with 12 if the start waits or drops the next byte.
 pub fn judge(start: &State, bytes: &[u8]) -> Result<Verdict, Refusal> {
     let (mut verdict, mut place, mut code) = (0, 0, 0);
     taken(calls::judge(&start.0, bytes, &mut verdict, &mut place, &mut code))?;
@@ -221,71 +228,4 @@ pub fn switch_on(
     let (mut bytes, mut count) = ([0; STATE_SIZE], 0);
     taken(calls::switch_on(stored, factory, iog_count, version, serial, &mut bytes, actions, 0, &mut count))?;
     Ok((State(bytes), count))
-}
-
-/// The replay of a session file from the factory start, in chunks whose sum is the transcript.
-///
-/// As an iterator it gives each chunk as a vector; [`Replay::fill`] fills a lent buffer instead.
-///
-/// ```
-/// let session = [3, 0, 1, 0, 0x07, 0x01, 0x1A];
-/// let transcript: Vec<u8> = uart_bridge::Replay::new(&session).flatten().collect();
-/// assert_eq!(transcript[..5], [1, 0, 1, 1, 0]);
-/// ```
-#[derive(Clone, Debug)]
-pub struct Replay<'a> {
-    session: &'a [u8],
-    cursor: Cursor,
-    room: usize,
-}
-
-impl<'a> Replay<'a> {
-    /// A replay in chunks of at most 16 KiB.
-    pub fn new(session: &'a [u8]) -> Replay<'a> {
-        Replay::with_room(session, 16 * 1024)
-    }
-
-    /// A replay in chunks of at most so many bytes, or [`REPLAY_ROOM`] if that is more: with less it might not get further.
-    pub fn with_room(session: &'a [u8], room: usize) -> Replay<'a> {
-        let state = State::factory_start().0.to_vec();
-        let cursor = Cursor { state, at: 0, end: 0, sample: 0, sampled: 0, done: 0 };
-        Replay { session, cursor, room: room.max(REPLAY_ROOM) }
-    }
-
-    /// Writes on to the buffer's front as far as surely fits, and answers how many bytes were written. With [`REPLAY_ROOM`] bytes
-    /// it always gets further.
-    pub fn fill(&mut self, output: &mut [u8]) -> usize {
-        let mut written = 0;
-        if !self.is_over() {
-            let refusal = calls::replay(&mut self.cursor, self.session, output, &mut written);
-            assert_eq!(refusal, 0, "the cursor holds a state, since the library made it");
-        }
-        written
-    }
-
-    /// Whether the transcript is at its end.
-    pub fn is_over(&self) -> bool {
-        self.cursor.done != 0
-    }
-
-    /// The state reached; the factory start again once the transcript is at its end.
-    pub fn state(&self) -> State {
-        let mut bytes = [0; STATE_SIZE];
-        bytes.copy_from_slice(&self.cursor.state);
-        State(bytes)
-    }
-}
-
-impl Iterator for Replay<'_> {
-    type Item = Vec<u8>;
-
-    fn next(&mut self) -> Option<Vec<u8>> {
-        if self.is_over() {
-            return None;
-        }
-        let mut chunk = vec![0; self.room];
-        let written = self.fill(&mut chunk);
-        chunk.truncate(written);
-        Some(chunk)
-    }
 }

@@ -1,8 +1,8 @@
-//! The edges of document 01 (P1 to P12), its whole case and a refusal of each number, through the wrapper.
+//! The edges of document 01 (P1 to P12), its whole case and a refusal of each number, and the drop of 02, Ask 2, through the wrapper.
 
 use uart_bridge::{
     judge, step, switch_on, Event, Fault, Given, Refusal, Replay, State, Verdict, MOST_ACTION_BYTES,
-    MOST_REPLIES, STATE_SIZE,
+    MOST_REPLIES, STATE_SIZE, WAITS_FOR_NOTHING,
 };
 
 const FACTORY: [u8; 10] = [0, 0, 0, 0, 0, 0, 0, 0xFF, 0xFF, 0xFF];
@@ -105,6 +105,41 @@ fn faults_are_stored() {
     for fault in [Fault::Frame, Fault::Overrun, Fault::Parity] {
         let taken = step(&State::factory_start(), Event::Fault(fault), &[], &mut [], &mut []).unwrap();
         assert_eq!((taken.state.error(), taken.replies), (fault.code(), 0));
+    }
+}
+
+/// The state after a fault and then a byte, which have no room for actions and replies.
+fn then(state: &State, fault: Fault, byte: Option<u8>) -> State {
+    let faulted = step(state, Event::Fault(fault), &[], &mut [], &mut []).unwrap().state;
+    let bytes = byte.into_iter();
+    bytes.fold(faulted, |state, byte| step(&state, Event::Byte(byte), &[], &mut [], &mut []).unwrap().state)
+}
+
+#[test]
+fn a_fault_between_commands_drops_the_next_byte() {
+    let start = after(&[1]).0;
+    for byte in [0x00, 0x02, 0x04, 0x06, 0x1D, 0xFF] {
+        let dropping = then(&start, Fault::Parity, None);
+        assert!(dropping.drops_next() && dropping.waits_for() == WAITS_FOR_NOTHING);
+        assert_eq!(judge(&dropping, &[]), Err(Refusal(12)));
+        let dropped = then(&dropping, Fault::Frame, Some(byte));
+        assert_eq!((dropped.drops_next(), dropped.error(), dropped.flags()), (false, 0x81, 1));
+        assert_eq!(judge(&dropped, &[0x20]), Ok(Verdict::Whole));
+    }
+    // Inside an item no byte is dropped: 5A is the operand.
+    let waiting = after(&[0x1D, 0x0E]).0;
+    assert!(!then(&waiting, Fault::Overrun, None).drops_next());
+    assert_eq!(then(&waiting, Fault::Overrun, Some(0x5A)).bytes()[38], 0x5A);
+}
+
+#[test]
+fn a_drop_beside_a_wait_and_another_byte_at_55_are_refused() {
+    for (front, byte) in [(&[0x1D][..], 1), (&[2, 0x40, 0, 0x44], 1), (&[], 2), (&[], 0xFF)] {
+        let mut bytes = *after(front).0.bytes();
+        bytes[55] = byte;
+        let state = State::from_bytes(bytes);
+        assert_eq!(step(&state, Event::Byte(0x08), &[], &mut [], &mut []), Err(Refusal(1)));
+        assert_eq!(judge(&state, &[]), Err(Refusal(1)));
     }
 }
 
