@@ -1,20 +1,22 @@
 //! `bridge_judge` beside the reference's `judge`, over scripts that are mostly orderly for long.
 
 use crate::dice::Dice;
-use crate::random::{any_state, likely_byte, state_in_range};
+use crate::random::likely_byte;
 use crate::show::hex;
 use crate::state_bytes;
+use crate::states::{any_state, state_in_range};
 use reference::actions::Lines;
 use reference::{Event, Judgement, State, Wait};
 use uart_bridge::calls;
 
-/// How many scripts were whole, open, wrong and refused.
+/// How many scripts were whole, open and wrong, and refused with 1 and 12; and how many of the last for a drop.
 #[derive(Default)]
 pub struct Tally {
     pub whole: u64,
     pub open: u64,
     pub wrong: u64,
-    pub refused: u64,
+    pub refused: [u64; 13],
+    pub drops: u64,
 }
 
 /// What the numbers behind a pointer hold before a call.
@@ -42,29 +44,41 @@ pub fn script(dice: &mut Dice, state: &State, length: usize) -> Vec<u8> {
     script
 }
 
-pub fn compare(dice: &mut Dice, tally: &mut Tally) -> Result<(), String> {
+/// The bytes of a start, which mostly neither waits nor drops.
+fn any_start(dice: &mut Dice) -> Box<[u8]> {
     let mut start = if dice.one_in(8) { any_state(dice) } else { state_in_range(dice) };
     if !dice.one_in(12) && start.len() == state_bytes::SIZE {
         start[state_bytes::WAIT] = 0;
         start[state_bytes::LEFT] = 0;
+        start[state_bytes::DROPS] *= u8::from(dice.one_in(8));
     }
-    let state = state_bytes::state_of(&start);
+    start
+}
+
+/// A script for a start, or for the factory's if there is none in range; one in eight has a byte changed.
+fn script_for(dice: &mut Dice, state: Option<State>) -> Box<[u8]> {
     let length = match dice.below(5_000) {
         0 => dice.between(60_000, 200_000),
         1..=99 => dice.below(3_000),
         100..=999 => dice.below(4),
         _ => dice.below(60),
     };
-    let mut from = state.clone().filter(State::in_range).unwrap_or_else(reference::factory_start);
+    let mut from = state.filter(State::in_range).unwrap_or_else(reference::factory_start);
     from.wait = Wait::Nothing;
+    from.drops = false;
     from.error = 0;
     let mut bytes = script(dice, &from, length);
     if !bytes.is_empty() && dice.one_in(8) {
         let place = dice.below(bytes.len());
         bytes[place] = dice.byte();
     }
-    let bytes = bytes.into_boxed_slice();
+    bytes.into_boxed_slice()
+}
 
+pub fn compare(dice: &mut Dice, tally: &mut Tally) -> Result<(), String> {
+    let start = any_start(dice);
+    let state = state_bytes::state_of(&start);
+    let bytes = script_for(dice, state.clone());
     let (mut verdict, mut place, mut code) = (Box::new(VERDICT), Box::new(PLACE), Box::new(CODE));
     let refusal = calls::judge(&start, &bytes, &mut verdict, &mut place, &mut code);
     let library = (refusal, *verdict, *place, *code);
@@ -87,7 +101,10 @@ pub fn compare(dice: &mut Dice, tally: &mut Tally) -> Result<(), String> {
         Judgement::Whole => tally.whole += 1,
         Judgement::Open => tally.open += 1,
         Judgement::WrongAt(..) => tally.wrong += 1,
-        Judgement::Refused(_) => tally.refused += 1,
+        Judgement::Refused(number) => {
+            tally.refused[usize::from(number)] += 1;
+            tally.drops += u64::from(number == 12 && start[state_bytes::DROPS] == 1);
+        }
     }
     Ok(())
 }

@@ -6,12 +6,15 @@
 //! difference is printed, and the exit code is then 1. Every slice that is lent is a piece of the heap of just its size, so that
 //! `valgrind --tool=memcheck` sees a read or a write by one byte too many.
 
+mod call;
 mod dice;
 mod judging;
 mod random;
+mod records;
 mod sessions;
 mod show;
 mod state_bytes;
+mod states;
 mod steps;
 mod switching;
 
@@ -70,7 +73,7 @@ fn plan() -> Result<Plan, String> {
 
 fn compare_all(plan: &Plan, tally: &mut Tally) -> Result<(), String> {
     let dice = &mut Dice::new(plan.seed);
-    let enough = plan.steps > steps::BYTES_TO_TAKE as u64;
+    let enough = plan.steps > steps::EVENTS_TO_TAKE as u64;
     let mut made = if enough { steps::every(dice, &mut tally.steps)? } else { 0 };
     while made < plan.steps {
         made += steps::walk(dice, plan.steps - made, &mut tally.steps)?;
@@ -108,15 +111,19 @@ fn refused(counts: &[u64]) -> String {
 fn report(tally: &Tally) {
     let Tally { steps, sessions, judging, switching } = tally;
     println!(
-        "steps: {} taken, {} of {} bytes with an interface and a wait; refused {}",
+        "steps: {} taken, {} of {} bytes and faults with an interface and a wait or a drop; refused {}",
         steps.by_refusal[0],
-        steps.bytes.len(),
-        steps::BYTES_TO_TAKE,
+        steps.events.len(),
+        steps::EVENTS_TO_TAKE,
         refused(&steps.by_refusal)
     );
     println!(
-        "scripts: {} whole, {} open, {} wrong, {} refused",
-        judging.whole, judging.open, judging.wrong, judging.refused
+        "scripts: {} whole, {} open, {} wrong; refused {}, {} of them for a drop",
+        judging.whole,
+        judging.open,
+        judging.wrong,
+        refused(&judging.refused),
+        judging.drops
     );
     println!(
         "switch-ons: {} taken; refused {}; {} factory starts",

@@ -2,7 +2,7 @@
 
 use reference::{Operand, Register, State, Wait};
 
-pub const SIZE: usize = 55;
+pub const SIZE: usize = 56;
 
 /// Where some things stand.
 pub const FLAGS: usize = 0;
@@ -16,6 +16,7 @@ pub const PACKET_SIZE: usize = 10;
 pub const WAIT: usize = 44;
 pub const LEFT: usize = 45;
 pub const HELD: usize = 46;
+pub const DROPS: usize = 55;
 
 /// The waits for one byte, 1 to 13.
 const OPERANDS: [Operand; 13] = [
@@ -40,7 +41,7 @@ fn part<const N: usize>(bytes: &[u8], at: usize) -> [u8; N] {
 
 /// The state of bytes, or none if the bytes are no state.
 pub fn state_of(bytes: &[u8]) -> Option<State> {
-    if bytes.len() != SIZE || bytes[CONFIGURED] > 1 {
+    if bytes.len() != SIZE || bytes[CONFIGURED] > 1 || bytes[DROPS] > 1 {
         return None;
     }
     let left = bytes[LEFT];
@@ -74,6 +75,7 @@ pub fn state_of(bytes: &[u8]) -> Option<State> {
         serial: part(bytes, 40),
         wait,
         held: part(bytes, HELD),
+        drops: bytes[DROPS] == 1,
     })
 }
 
@@ -97,6 +99,7 @@ pub fn bytes_of(state: &State) -> Box<[u8]> {
         Wait::Timings { left } => [17, left],
     });
     bytes.extend(state.held);
+    bytes.push(u8::from(state.drops));
     assert_eq!(bytes.len(), SIZE);
     bytes.into_boxed_slice()
 }

@@ -1,106 +1,27 @@
 //! `bridge_step` beside the reference's `step`: single calls of any kind, and walks from event to event.
 
+use crate::call::{by_the_library, by_the_reference, by_the_wrapper, difference, Answer, Call};
 use crate::dice::Dice;
-use crate::random::{
-    any_state, event, likely_event, needs, past, room, samples, state_in_range, state_with, waits,
-    COMMON_WAITS,
-};
-use crate::show::{hex, parting};
-use crate::state_bytes;
-use reference::state::{State, I2C_SEL, ONE_WIRE_SEL, SPI_SEL};
+use crate::random::{event, likely_event, needs, past, room, samples};
+use crate::state_bytes::{self, DROPS, FLAGS, WAIT};
+use crate::states::{any_state, state_in_range, state_with, waits, COMMON_WAITS};
+use reference::state::{I2C_SEL, ONE_WIRE_SEL, SPI_SEL};
 use std::collections::HashSet;
-use std::fmt;
-use uart_bridge::calls::{self, Counts};
+use uart_bridge::calls;
 
-/// All that goes into a call. Each slice is a piece of the heap that is as long as it says.
-#[derive(Clone)]
-struct Call {
-    bytes: Box<[u8]>,
-    kind: u8,
-    value: u8,
-    samples: Box<[u8]>,
-    sampled: usize,
-    actions: Box<[u8]>,
-    acted: usize,
-    replies: Box<[u8]>,
-    replied: usize,
-}
-
-/// All that comes out: the refusal's number, and everything behind a pointer that is not `const`.
-#[derive(PartialEq, Eq)]
-struct Answer {
-    refusal: u8,
-    counts: Counts,
-    bytes: Box<[u8]>,
-    actions: Box<[u8]>,
-    replies: Box<[u8]>,
-}
-
-/// How many calls ended how (0 is taken), and the bytes taken: the interface, what was waited for, the byte.
+/// How many calls ended how (0 is taken), and the events taken: the interface, what was waited for, the kind, the byte or fault.
 #[derive(Default)]
 pub struct Tally {
     pub by_refusal: [u64; 13],
-    pub bytes: HashSet<(u8, u8, u8)>,
+    pub events: HashSet<(u8, u8, u8, u8)>,
 }
 
-/// How many such bytes there are: nine waits without an interface, one more with I2C, four with SPI or 1-Wire; and any byte.
-pub const BYTES_TO_TAKE: usize = (9 + 10 + 13 + 13) * 256;
+/// How many such events there are: nine waits and a drop without an interface, one more with I2C, four with SPI or 1-Wire; and any
+/// byte or fault.
+pub const EVENTS_TO_TAKE: usize = (10 + 11 + 14 + 14) * (256 + 3);
 
-fn by_the_library(call: &Call) -> Answer {
-    let Call { mut bytes, mut actions, mut replies, .. } = call.clone();
-    let mut counts = Box::new(Counts { samples: 0x5A5A, replies: 0x5A5A, actions: 0x5A5A });
-    let refusal = calls::step(
-        &mut bytes,
-        call.kind,
-        call.value,
-        &call.samples,
-        call.sampled,
-        &mut actions,
-        call.acted,
-        &mut replies,
-        call.replied,
-        &mut counts,
-    );
-    Answer { refusal, counts: *counts, bytes, actions, replies }
-}
-
-/// The refusal of a call that has no event, which would be 8 or 9: the lowest number that applies, as in 01.
-fn no_event(call: &Call, state: &State, number: u8) -> u8 {
-    if !state.in_range() {
-        1
-    } else if call.sampled > call.samples.len() {
-        2
-    } else if call.acted > call.actions.len() {
-        3
-    } else if call.replied > call.replies.len() {
-        4
-    } else {
-        number
-    }
-}
-
-fn by_the_reference(call: &Call) -> Answer {
-    let Call { bytes, mut actions, mut replies, .. } = call.clone();
-    let refused = |refusal| {
-        let Call { bytes, actions, replies, .. } = call.clone();
-        Answer { refusal, counts: Counts::default(), bytes, actions, replies }
-    };
-    let Some(state) = state_bytes::state_of(&bytes) else { return refused(1) };
-    let event = match event(call.kind, call.value) {
-        Ok(event) => event,
-        Err(number) => return refused(no_event(call, &state, number)),
-    };
-    let (sampled, acted, replied) = (call.sampled, call.acted, call.replied);
-    let answer =
-        reference::step(&state, event, &call.samples, sampled, &mut actions, acted, &mut replies, replied);
-    Answer {
-        refusal: answer.outcome,
-        counts: Counts { samples: answer.samples, replies: answer.replies, actions: answer.actions },
-        bytes: state_bytes::bytes_of(&answer.state),
-        actions,
-        replies,
-    }
-}
+/// A drop, among the waits.
+const DROP: u8 = 18;
 
 /// Both answers, if they are the same.
 fn compare(call: &Call, tally: &mut Tally) -> Result<Answer, String> {
@@ -109,54 +30,24 @@ fn compare(call: &Call, tally: &mut Tally) -> Result<Answer, String> {
         return Err(difference(call, &library, &reference));
     }
     tally.by_refusal[usize::from(library.refusal)] += 1;
-    if library.refusal == 0 && call.kind == calls::BYTE {
-        tally.bytes.insert((call.bytes[state_bytes::FLAGS] & 7, call.bytes[state_bytes::WAIT], call.value));
+    if library.refusal == 0 {
+        let wait = if call.bytes[DROPS] == 1 { DROP } else { call.bytes[WAIT] };
+        tally.events.insert((call.bytes[FLAGS] & 7, wait, call.kind, call.value));
     }
     Ok(library)
 }
 
-fn difference(call: &Call, library: &Answer, reference: &Answer) -> String {
-    format!(
-        "step\n{call}library   {library}reference {reference}{}{}{}",
-        parting("states", &library.bytes, &reference.bytes),
-        parting("actions", &library.actions, &reference.actions),
-        parting("replies", &library.replies, &reference.replies),
-    )
-}
-
-impl fmt::Display for Call {
-    fn fmt(&self, f: &mut fmt::Formatter<'_>) -> fmt::Result {
-        writeln!(f, "state {}", hex(&self.bytes))?;
-        writeln!(f, "event kind {}, value {:02x}", self.kind, self.value)?;
-        let rest = self.samples.get(self.sampled..).unwrap_or(&[]);
-        writeln!(
-            f,
-            "samples of {} bytes, mark {}: {}",
-            self.samples.len(),
-            self.sampled,
-            hex(&rest[..rest.len().min(80)])
-        )?;
-        writeln!(f, "actions of {} bytes, mark {}", self.actions.len(), self.acted)?;
-        writeln!(f, "replies of {} bytes, mark {}", self.replies.len(), self.replied)
-    }
-}
-
-impl fmt::Display for Answer {
-    fn fmt(&self, f: &mut fmt::Formatter<'_>) -> fmt::Result {
-        let Counts { samples, replies, actions } = self.counts;
-        writeln!(f, "refusal {}, {samples} samples, {replies} replies, {actions} actions", self.refusal)?;
-        writeln!(f, "  state {}", hex(&self.bytes))
-    }
-}
-
-/// Every byte for every interface and wait, with room enough. Answers how many calls that were.
+/// Every byte and fault for every interface with every wait and a drop, with room enough. Answers how many calls that were.
 pub fn every(dice: &mut Dice, tally: &mut Tally) -> Result<u64, String> {
+    let bytes = (0..=255).map(|byte| (calls::BYTE, byte));
+    let events: Vec<(u8, u8)> = bytes.chain((0x81..=0x83).map(|fault| (calls::FAULT, fault))).collect();
     let mut made = 0;
     for interface in [0, I2C_SEL, SPI_SEL, ONE_WIRE_SEL] {
-        for &wait in COMMON_WAITS.iter().chain(waits(interface)) {
-            for value in 0..=255 {
-                let bytes = state_with(dice, interface, wait);
-                one(dice, bytes, calls::BYTE, value, true, tally)?;
+        for &wait in COMMON_WAITS.iter().chain(waits(interface)).chain(&[DROP]) {
+            for &(kind, value) in &events {
+                let mut bytes = state_with(dice, interface, if wait == DROP { 0 } else { wait });
+                bytes[DROPS] = u8::from(wait == DROP);
+                one(dice, bytes, kind, value, true, tally)?;
                 made += 1;
             }
         }
@@ -203,39 +94,6 @@ fn one(
     compare(&call, tally)?;
     if dice.one_in(8) {
         by_the_wrapper(&call)?;
-    }
-    Ok(())
-}
-
-/// The wrapper's `step` on the rests of the buffers does what the C function does with marks.
-fn by_the_wrapper(call: &Call) -> Result<(), String> {
-    use uart_bridge::{step, Event, Fault};
-    let event = match (call.kind, call.value) {
-        (1, byte) => Event::Byte(byte),
-        (2, 0x81) => Event::Fault(Fault::Frame),
-        (2, 0x82) => Event::Fault(Fault::Overrun),
-        (2, 0x83) => Event::Fault(Fault::Parity),
-        _ => return Ok(()),
-    };
-    let Call { mut actions, mut replies, .. } = call.clone();
-    let rests =
-        (call.samples.get(call.sampled..), actions.get_mut(call.acted..), replies.get_mut(call.replied..));
-    let (Ok(bytes), (Some(samples), Some(action_rest), Some(reply_rest))) =
-        (call.bytes[..].try_into(), rests)
-    else {
-        return Ok(());
-    };
-    let answer = step(&uart_bridge::State::from_bytes(bytes), event, samples, action_rest, reply_rest);
-    let (refusal, counts, bytes) = match answer {
-        Ok(taken) => {
-            let counts = Counts { samples: taken.samples, replies: taken.replies, actions: taken.actions };
-            (0, counts, Box::from(&taken.state.bytes()[..]))
-        }
-        Err(refusal) => (refusal.0, Counts::default(), call.bytes.clone()),
-    };
-    let (wrapper, library) = (Answer { refusal, counts, bytes, actions, replies }, by_the_library(call));
-    if wrapper != library {
-        return Err(format!("wrapper's {}", difference(call, &wrapper, &library)));
     }
     Ok(())
 }

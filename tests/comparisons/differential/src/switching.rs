@@ -16,7 +16,7 @@ pub struct Tally {
 
 fn state_size(dice: &mut Dice) -> usize {
     if dice.one_in(20) {
-        dice.pick(&[0, 1, 28, 54, 56, 110])
+        dice.pick(&[0, 1, 28, 54, 55, 57, 110])
     } else {
         SIZE
     }
