@@ -1,10 +1,11 @@
 -- THEOREM: a byte's effect agrees with the grammar's scanner, seen through the view of the state. Assumes nothing.
 use Prim.Native.Nat.{ℕ, _<_}
-use mathlib.Core.Path.{refl, sym, subst}
-use mathlib.Core.Bool.{true, false}
+use mathlib.Core.Path.{_≡_, refl, sym, ap, _∙_, subst}
+use mathlib.Core.Bool.{Bool, true, false, cond}
 use mathlib.Core.List.{List}
 use Rattle.grammar.specs.Scanner.{Opening, opened, scanAt, scan}
 use Rattle.grammar.proofs.Follows.{Agree}
+use Rattle.registers.specs.Registers.{withDrop}
 use Rattle.registers.specs.Ranges.{InRange}
 use Rattle.registers.specs.declared.Page.{Page}
 use Rattle.registers.specs.declared.Shared.{Shared}
@@ -15,7 +16,12 @@ use Rattle.registers.specs.declared.Event.the-variants as e
 use Rattle.registers.proofs.InRange.{packet-left, timings-left}
 use Rattle.decisions.specs.Said.{codesOf}
 use Rattle.commands.specs.Commands.{commandOf}
-use Rattle.decisions.specs.Events.{commandDecision, byteDecision, decisionOf, effectOf}
+use Rattle.decisions.specs.Decisions.{sends}
+use Rattle.decisions.specs.declared.Answer.the-variants.{Silent}
+use Rattle.decisions.specs.declared.Decision.{Decision}
+use Rattle.decisions.specs.Effects.{carriedOut}
+use Rattle.decisions.specs.Events.{commandDecision, byteDecision, effectOf}
+use Rattle.decisions.proofs.Changes.{drop-same}
 use Rattle.bridge.specs.Views.{contextOf}
 use Rattle.bridge.proofs.View.{placeOf, viewOf}
 use Rattle.bridge.proofs.Openings.{opening-is, extension-is, between-is, extended-is}
@@ -26,7 +32,7 @@ use Rattle.bridge.proofs.Inside.{after-agrees, operand-agrees, packet-a
 module _ (page : Page) (shared : Shared) (held : List ℕ) (b : ℕ) (h : b < 256) where
   -- the state with a wait, so that the wait can be taken apart
   abbrev at : Wait → State
-  at a = record { page = page; shared = shared; wait = a; held = held }
+  at a = record { page = page; shared = shared; wait = a; held = held; drop = false }
 
   decision-agrees : (a : Wait) → InRange (at a) → DecisionAgrees (at a) (scanAt (placeOf a) (contextOf (at a)) b) (byteDecision (at a) a b)
   decision-agrees v.Nothing n =
@@ -43,7 +49,14 @@ module _ (page : Page) (shared : Shared) (held : List ℕ) (b : ℕ) (h : b < 25
       let s = at (v.Timings left) in
       timings-agree s b left (timings-left s left n refl .0)
 
-pub byte-agrees : (s : State) (b : ℕ) (ss : List ℕ) (m : ℕ) → b < 256 → InRange s
+-- where no drop is pending
+pub byte-agrees : (s : State) (b : ℕ) (ss : List ℕ) (m : ℕ) → b < 256 → InRange s → s .drop ≡ false
     → Agree (scan (viewOf s) b) (codesOf ((effectOf s (e.Byte b) ss m) .said)) (viewOf s) (viewOf ((effectOf s (e.Byte b) ss m) .state))
 unfolding effectOf
-byte-agrees s b ss m h n = carried-agrees s (scan (viewOf s) b) (decisionOf s (e.Byte b)) ss m (decision-agrees (s .page) (s .shared) (s .held) b h (s .wait) n)
+byte-agrees s b ss m h n u =
+    let t = withDrop s false in
+    let d = byteDecision t (s .wait) b in
+    let a : Agree (scan (viewOf s) b) (codesOf ((carriedOut t d ss m) .said)) (viewOf s) (viewOf ((carriedOut t d ss m) .state)) =
+    carried-agrees t (scan (viewOf s) b) d ss m (decision-agrees (s .page) (s .shared) (s .held) b h (s .wait) (subst InRange (sym (drop-same s u)) n)) in
+    subst (λ (x : Decision). Agree (scan (viewOf s) b) (codesOf ((carriedOut t x ss m) .said)) (viewOf s) (viewOf ((carriedOut t x ss m) .state)))
+    (ap (λ (r : State). byteDecision r (s .wait) b) (drop-same s u) ∙ ap (λ (p : Bool). cond p (sends Silent) (byteDecision s (s .wait) b)) (sym u)) a

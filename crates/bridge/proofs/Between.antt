@@ -45,7 +45,7 @@ use Rattle.bridge.proofs.Decisions.{Opens, Goes, legal-row, rejected-ro
 
 module _ (page : Page) (shared : Shared) (held : List ℕ) (b : ℕ) where
   abbrev s : State
-  s = record { page = page; shared = shared; wait = v.Nothing; held = held }
+  s = record { page = page; shared = shared; wait = v.Nothing; held = held; drop = false }
 
   -- THE COMMON COMMANDS
 

@@ -1,12 +1,13 @@
 -- What is measured by deciding, sensing, receiving and responding is the event's effect. Assumes nothing.
 use Prim.Native.Nat.{ℕ, _*_, _<_, _≤_}
 use mathlib.Core.Path.{_≡_, refl, sym, ap, _∙_, subst⁻¹}
+use mathlib.Core.Bool.{Bool}
 use mathlib.Core.List.{List}
 use lib.ListN.{length}
 use Rattle.wire.specs.Action.{Action, bytesOf}
 use Rattle.wire.proofs.Actions.{bytes-length}
 use Rattle.packet.specs.Packet.{width}
-use Rattle.registers.specs.Registers.{withReceived}
+use Rattle.registers.specs.Registers.{withDrop, withReceived}
 use Rattle.registers.specs.Ranges.{InRange}
 use Rattle.registers.specs.declared.State.{State}
 use Rattle.registers.specs.declared.Event.{Event}
@@ -17,7 +18,8 @@ use Rattle.decisions.specs.Said.{codesOf}
 use Rattle.decisions.specs.Changes.{changed}
 use Rattle.decisions.specs.Effects.{saidOf, effectFrom}
 use Rattle.decisions.specs.declared.Decision.{Decision}
-use Rattle.decisions.specs.Events.{decisionOf, effectOf}
+use Rattle.decisions.specs.Events.{decisionOf, dropAfter, dropMarked, effectOf}
+use Rattle.decisions.proofs.Changes.{change-marked}
 use Rattle.decisions.proofs.Keeps.{decision-keeps}
 use Rattle.effects.specs.Replies.{replyBytes, Response, response, responseOf}
 use Rattle.effects.specs.Returning.{ReturnedBy}
@@ -26,11 +28,17 @@ use Rattle.effects.specs.declared.Responded.{Responded}
 use Rattle.bridge.specs.Measuring.{Measured, MeasuredAs}
 
 module _ (s : State) (e : Event) (ss : List ℕ) (m : ℕ) (n : InRange s) where
-  -- what is decided and applied is the change of the event's decision
-  pub applied : (d : Decision) {t : State} → d ≡ decisionOf s e → t ≡ changed s (d .change) → t ≡ changed s (decisionOf s e .change)
-  applied d q r = r ∙ ap (λ (b : Decision). changed s (b .change)) q
+  -- the state that the event's decision changes, with the drop marked
+  abbrev after : State
+  after = changed (dropMarked s e) (decisionOf s e .change)
 
-  pub applied-small : {t : State} → t ≡ changed s (decisionOf s e .change) → t .page .size < width
+  -- what is decided, applied and marked is that state
+  pub applied : (d : Decision) {t : State} {pending : Bool} → d ≡ decisionOf s e → t ≡ changed s (d .change) → pending ≡ dropAfter (s .wait) e → withDrop t pending ≡ after
+  applied d {t} {pending} q r u =
+      let x = decisionOf s e .change in
+      ap (λ (c : State). withDrop c pending) (r ∙ ap (λ (b : Decision). changed s (b .change)) q) ∙ ap (withDrop (changed s x)) u ∙ sym (change-marked s (dropAfter (s .wait) e) x)
+
+  pub applied-small : {t : State} → t ≡ after → t .page .size < width
   applied-small q = subst⁻¹ (λ (t : State). t .page .size < width) q (decision-keeps s n e .page .size-register)
 
   abbrev measuredOf : Decision → State → Sensed → Responded → Returned → ℕ → Measured
@@ -47,11 +55,11 @@ module _ (s : State) (e : Event) (ss : List ℕ) (m : ℕ) (n : InRange s) where
       → (y : Returned) → ReturnedBy (d .answer) (x .byte) y
       → (k : ℕ) → k ≡ length (replyBytes (t .state) (t .reply)) → MeasuredAs s e ss m (measuredOf d c x t y k)
 
-  decided : After (decisionOf s e) (changed s (decisionOf s e .change))
+  decided : After (decisionOf s e) after
   unfolding effectOf effectFrom
   decided x ex q eq t et y ey k ek =
       let d = decisionOf s e in
-      let c = changed s (d .change) in
+      let c = after in
       let g : response (t .state) (replyBytes (t .state) (t .reply)) ≡ responds d c (senseOf (waveOf (c .page) (d .wave) ss m)) =
       et ∙ ap (λ (r : State). responseOf r (saidOf r (x .byte) (d .answer))) eq ∙ ap (responds d c) ex in
       record {
@@ -66,8 +74,8 @@ module _ (s : State) (e : Event) (ss : List ℕ) (m : ℕ) (n : InRange s) where
         state-small = subst⁻¹ (λ (r : State). r .page .size < width) (ap (λ (z : Response). z .state) g) (applied-small refl);
       }
 
-  pub measured : (d : Decision) (c : State) → d ≡ decisionOf s e → c ≡ changed s (d .change) → After d c
-  measured d c q r = subst⁻¹ (λ (b : Decision). After b c) q (subst⁻¹ (After (decisionOf s e)) (applied d q r) decided)
+  pub measured : (d : Decision) (c : State) → d ≡ decisionOf s e → c ≡ after → After d c
+  measured d c q r = subst⁻¹ (λ (b : Decision). After b c) q (subst⁻¹ (After (decisionOf s e)) r decided)
 
 -- what is to be written fits where its measure fits
 module _ {s : State} {e : Event} {ss : List ℕ} {m : ℕ} {r : Measured} (p : MeasuredAs s e ss m r) (k : ℕ) where

@@ -15,7 +15,7 @@ use Rattle.wire.specs.Action.{bytesOf}
 use Rattle.codes.specs.Codes.{rejecting, anyRejecting}
 use Rattle.wire.specs.Sample.{samplings, SameFrom}
 use Rattle.registers.specs.Registers.{withPage, withError}
-use Rattle.registers.specs.Ranges.{InRange, Sized}
+use Rattle.registers.specs.Ranges.{InRange, BetweenCommands, Sized}
 use Rattle.registers.specs.declared.Event.{Event}
 use Rattle.registers.specs.declared.Event.the-variants as e
 use Rattle.registers.specs.declared.Wait.the-variants as v
@@ -120,7 +120,7 @@ abbrev pub machine : Machine
 machine = record {
   State = Bridge;
   Lent = Lent;
-  Good = λ b. InRange (b .state);
+  Good = λ b. InRange (b .state) × (b .state .drop ≡ false);
   Idle = λ b. b .state .wait ≡ v.Nothing;
   context = λ b. contextOf (b .state);
   refuses = λ b x l. isRefused (outcome b (e.Byte x) l);
@@ -128,9 +128,13 @@ machine = record {
   next = λ b x l. (answerOf b (e.Byte x) l) .answer .bridge;
 }
 
--- "A start between commands breaks no range and waits for nothing."
+-- "A start between commands breaks no range and waits for nothing", and "Demand 3 starts with no drop pending" (02, Ask 2)
 abbrev pub Demand3 : Type 0
-Demand3 = (b : Bridge) → InRange (b .state) → b .state .wait ≡ v.Nothing → (ks : List (Call machine)) → grammar.Demand3 machine b ks
+Demand3 = (b : Bridge) → BetweenCommands (b .state) → (ks : List (Call machine)) → grammar.Demand3 machine b ks
+
+-- THEOREM (proofs/Demand3.antt, `no-drop-made`): no list of bytes makes a drop
+abbrev pub NoDropMade : Type 0
+NoDropMade = (b : Bridge) → b .state .drop ≡ false → (ks : List (Call machine)) → grammar.final machine b ks .state .drop ≡ false
 
 -- THEOREM (proofs/Demand3.antt, `code-foretold`): over the same lists, the judge's call says that the bytes taken are wrong at k with the
 -- code w exactly if the first rejected call is the one that handed over byte k, and w is the code that it returned; "The judge's wrong
@@ -142,10 +146,10 @@ abbrev pub codesTold : Bridge → List (Call machine) → List (List ℕ)
 codesTold b ks = grammar.told machine (grammar.notRefused machine b ks)
 
 abbrev pub CodeForetold : Type 0
-CodeForetold = (b : Bridge) → InRange (b .state) → b .state .wait ≡ v.Nothing → (ks : List (Call machine)) (k w : ℕ)
+CodeForetold = (b : Bridge) → BetweenCommands (b .state) → (ks : List (Call machine)) (k w : ℕ)
     → (judgementOf b (bytesTaken b ks) ≡ Judged (Wrong k w)) ↔ (grammar.FirstRejected (codesTold b ks) k × grammar.ReturnedAt (codesTold b ks) k w)
 
 -- THEOREM (proofs/Demand3.antt, `context-followed`): after any such list the context is where the grammar leads by the bytes taken
 -- alone, rejected ones among them; so a writer of command streams can count a packet's bytes without a bridge
 abbrev pub ContextFollowed : Type 0
-ContextFollowed = (b : Bridge) → InRange (b .state) → b .state .wait ≡ v.Nothing → (ks : List (Call machine)) → Leads machine b ks
+ContextFollowed = (b : Bridge) → BetweenCommands (b .state) → (ks : List (Call machine)) → Leads machine b ks

@@ -25,6 +25,7 @@ factoryState = record {
   shared = record { eprom = factoryImage; cycles = 0xFF; version = 0; serial = zeros serialBytes };
   wait = v.Nothing;
   held = zeros heldBytes;
+  drop = false;
 }
 
 abbrev pub start : Bridge

@@ -6,11 +6,11 @@ ghost use Rattle.bridge.specs.Views.{interfaceOf, contextOf};
 ghost use Rattle.bridge.specs.Judging.{judgementOf};
 use crate::Bridge;
 use crate::Judgement;
-use crate::is_idle;
 use grammar::Context;
 use grammar::Interface;
 use refusals::Refusal;
 use registers::State;
+use registers::is_idle;
 use registers::parts::bits_of;
 use registers::parts::i2c_selected;
 use registers::parts::one_wire_selected;
@@ -55,7 +55,7 @@ impl Bridge {
             return Judgement::Refused(Refusal::Ranges);
         }
         let w = s.wait;
-        if !is_idle(w) {
+        if !(is_idle(w) & !s.drop) {
             return Judgement::Refused(Refusal::Waits);
         }
         let v = grammar::judge(context(s), bytes);

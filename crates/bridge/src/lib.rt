@@ -3,7 +3,6 @@ ghost use mathlib.Core.Path.{_≡_};
 ghost use Prim.Native.Nat.{_/_};
 ghost use Rattle.registers.specs.Ranges.{InRange};
 ghost use Rattle.effects.specs.Returning.{codesIn};
-ghost use Rattle.bridge.specs.Judging.{isIdle};
 ghost use Rattle.bridge.specs.Answering.{answered, refusal, acceptance, given, lent, answerOf};
 
 mod judging;
@@ -14,7 +13,6 @@ use grammar::Verdict;
 use refusals::Refusal;
 use registers::Event;
 use registers::State;
-use registers::Wait;
 
 // The bridge that a call takes and hands back: the state of the crates below, by value.
 pub struct Bridge {
@@ -42,22 +40,6 @@ pub struct Stepped {
 pub enum Judgement {
     Judged(Verdict),
     Refused(Refusal),
-}
-
-// Whether nothing is waited for.
-pub fn is_idle(w: Wait) -> bool
-    ensures { λ r. ⌜ r ≡ isIdle w ⌝ }
-{
-    match w {
-        Wait::Nothing => true,
-        Wait::One(_) => false,
-        Wait::Extended => false,
-        Wait::Packet {
-            left: _,
-            exchange: _,
-        } => false,
-        Wait::Timings { left: _ } => false,
-    }
 }
 
 // A refused call's answer: the bridge that it was given, no codes and no counts.

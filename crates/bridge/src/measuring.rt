@@ -32,7 +32,10 @@ pub fn measure(s: State, event: Event, samples: &[u8], sampled: usize) -> Measur
 {
     let d = decisions::decision_of(s, event);
     let change = d.change;
-    let changed = changes::apply(s, change);
+    let w = s.wait;
+    let pending = decisions::drop_after(w, event);
+    let mut changed = changes::apply(s, change);
+    changed.drop = pending;
     let page = changed.page;
     let wave = d.wave;
     let answer = d.answer;

@@ -9,7 +9,7 @@ use Rattle.packet.specs.Packet.{width, registerBytes, packetBytes, lowBytes}
 use Rattle.packet.proofs.Loads.{length-low}
 use Rattle.codes.proofs.Both.{both-left, both-right}
 use Rattle.registers.specs.Registers.{reportsOn, bitsIn, withReceived, timingBytes, imageBytes, serialBytes}
-use Rattle.registers.specs.Ranges.{InRange, Sized}
+use Rattle.registers.specs.Ranges.{Sized}
 use Rattle.registers.specs.declared.State.{State}
 use Rattle.registers.specs.declared.Event.{Event}
 use Rattle.signals.specs.Waveforms.{waveOf}
@@ -20,7 +20,7 @@ use Rattle.decisions.specs.Said.{returned, sent, repliesOf}
 use Rattle.decisions.specs.Decisions.{Decision, Change, Answer, Silent, Returns, ReturnsTwice, ReturnsAndSends, Checked, Sends, SendsSample, SendsLevel, SendsEprom, SendsSerial, SendsTimings, SendsPacket, SendsLow, ReturnsThenLow}
 use Rattle.decisions.specs.Changes.{changed}
 use Rattle.decisions.specs.Effects.{saidOf, effectFrom}
-use Rattle.decisions.specs.Events.{decisionOf, effectOf}
+use Rattle.decisions.specs.Events.{decisionOf, dropMarked, effectOf}
 use Rattle.decisions.specs.Promises.{mostReplies, FewActions, FewReplies}
 use Rattle.wire.proofs.Choices.{at-most}
 use Rattle.decisions.proofs.Sent.{replies-sent}
@@ -101,14 +101,14 @@ module _ (s : State) (z : Sized s) (h : s .page .size < width) where
 sized-after : (s : State) (r : List ℕ) → Sized s → length r ≡ registerBytes → Sized (withReceived s r)
 sized-after s r z e = record { eprom = z .eprom; serial = z .serial; packet = e; timings = z .timings }
 
-module _ (s : State) (n : InRange s) (z : Sized s) (on : Bool) (x : ℕ) where
+module _ (s : State) (n : s .page .size < width) (z : Sized s) (on : Bool) (x : ℕ) where
   abbrev Few : Answer → State → List ℕ → Type 0
   Few a t r = length (repliesOf on (saidOf (withReceived t r) x a)) ≤ mostReplies
 
   long-few : (a : Answer) (r : List ℕ) → length r ≡ registerBytes → Few a s r
   long-few a r e =
       let t = withReceived s r in
-      rw (reply-count t (sized-after s r z e) (n .page .size-register) on x a) (few t (sized-after s r z e) (n .page .size-register) on a)
+      rw (reply-count t (sized-after s r z e) n on x a) (few t (sized-after s r z e) n on a)
 
   -- a long answer is of the state as it was
   proper-few : (d : Decision) (y : Change) (r : List ℕ) → d .change ≡ y → stays y || short (d .answer) ≡ true → length r ≡ registerBytes → Few (d .answer) (changed s (d .change)) r
@@ -138,12 +138,13 @@ pub event-replies : (s : State) (a : Event) (ss : List ℕ) (m : ℕ) → FewRep
 unfolding effectOf effectFrom
 event-replies s a ss m n z =
     let d = decisionOf s a in
-    let p = changed s (d .change) .page in
+    let t = dropMarked s a in
+    let p = changed t (d .change) .page in
     let v = waveOf p (d .wave) ss m in
-    sorted-few s n z (reportsOn (p .flags)) (v .byte) d (decision-sorted s a) (v .packet) (wave-packet p (d .wave) ss m (change-packet s (d .change) (z .packet)))
+    sorted-few t (n .page .size-register) (record { eprom = z .eprom; serial = z .serial; packet = z .packet; timings = z .timings }) (reportsOn (p .flags)) (v .byte) d (decision-sorted s a) (v .packet) (wave-packet p (d .wave) ss m (change-packet t (d .change) (z .packet)))
 
 pub event-actions : (s : State) (a : Event) (ss : List ℕ) (m : ℕ) → FewActions s a ss m
 unfolding effectOf effectFrom
 event-actions s a ss m n =
     let d = decisionOf s a in
-    wave-few (changed s (d .change) .page) (d .wave) ss m (decision-keeps s n a .page .size-register)
+    wave-few (changed (dropMarked s a) (d .change) .page) (d .wave) ss m (decision-keeps s n a .page .size-register)

@@ -1,14 +1,14 @@
 -- Every event keeps the ranges: what its decision changes fits them. Assumes nothing.
 use Prim.Native.Nat.{ℕ, _-_, _≤_}
-use mathlib.Core.Path.{_≡_, refl}
-use mathlib.Core.Bool.{Bool, true, false, not, cond, _&&_}
+use mathlib.Core.Path.{_≡_, refl, sym, ap, subst}
+use mathlib.Core.Bool.{Bool, true, false, not, cond, _&&_, false≢true}
 use mathlib.Core.List.{List}
 use native.Mathlib.Omega.{arith}
 use borrow.Author.Tests.{eqb-false}
 use lib.Dec.{eqb}
 use Rattle.codes.proofs.Lookup.{either}
 use Rattle.packet.specs.Packet.{packetBytes}
-use Rattle.registers.specs.Registers.{i2cSelected, spiSelected, oneWireSelected, bitsIn}
+use Rattle.registers.specs.Registers.{i2cSelected, spiSelected, oneWireSelected, bitsIn, withDrop}
 use Rattle.registers.specs.Ranges.{PageInRange, PacketWait, InRange}
 use Rattle.registers.specs.declared.State.{State}
 use Rattle.registers.specs.declared.PortRegister.the-variants as r
@@ -18,11 +18,11 @@ use Rattle.registers.specs.declared.Wait.{Wait}
 use Rattle.registers.specs.declared.Wait.the-variants as v
 use Rattle.registers.specs.declared.Event.{Event}
 use Rattle.registers.specs.declared.Event.the-variants as e
-use Rattle.registers.proofs.InRange.{wait-as}
+use Rattle.registers.proofs.InRange.{idle-is, wait-as}
 use Rattle.commands.specs.Commands.{commandOf}
 use Rattle.commands.specs.declared.Command.{Command}
 use Rattle.registers.specs.declared.Bit.the-variants.{Three, Four}
-use Rattle.decisions.specs.Decisions.{Decision}
+use Rattle.decisions.specs.Decisions.{Decision, Silent, sends}
 use Rattle.commands.specs.Legality.{spiNeedsConfiguration, legalityOf}
 use Rattle.commands.specs.declared.Legality.{Legality}
 use Rattle.commands.specs.declared.Legality.the-variants.{Legal, Rejected}
@@ -35,8 +35,8 @@ use Rattle.decisions.specs.OneWire.{oneWireClause}
 use Rattle.decisions.specs.Changes.{changed}
 use Rattle.decisions.specs.Operands.{operandClause, loadedClause}
 use Rattle.decisions.specs.Effects.{effectFrom}
-use Rattle.decisions.specs.Events.{clauseOf, commandDecided, byteDecision, decisionOf, effectOf}
-use Rattle.decisions.specs.Promises.{Keeps}
+use Rattle.decisions.specs.Events.{clauseOf, commandDecided, byteDecision, decisionOf, dropAfter, dropMarked, effectOf}
+use Rattle.decisions.specs.Promises.{Keeps, DropsAfter}
 use Rattle.commands.specs.declared.Command.the-variants as k
 use Rattle.commands.specs.declared.CommonCommand.{CommonCommand}
 use Rattle.commands.specs.declared.CommonCommand.the-variants as m
@@ -50,7 +50,7 @@ use Rattle.commands.specs.declared.OneWireCommand.{OneWireCommand}
 use Rattle.commands.specs.declared.OneWireCommand.the-variants as w
 use Rattle.wire.proofs.Choices.{at-most}
 use Rattle.decisions.proofs.KeptParts.{protected-fits, bit-fits, register-fits, flag-count}
-use Rattle.decisions.proofs.Changes.{Free, Fitting, change-keeps}
+use Rattle.decisions.proofs.Changes.{Free, Fitting, drop-same, change-marked, change-keeps}
 use Rattle.commands.proofs.Legal.{LegalHere, legal-here}
 
 -- one of more than one is left
@@ -170,14 +170,19 @@ module _ (s : State) (n : InRange s) where
       let t = wait-as s (v.Timings left) n z in
       last-or-not left _ _ tt (λ ne. record { one-wire-selected = t .one-wire-selected; one-or-more = below-one left (t .one-or-more) ne; nine-or-less = omega (arith, t .nine-or-less) })
 
-  decision-fits : (a : Event) → Fit (decisionOf s a)
-  decision-fits (e.Byte b) = byte-fits (s .wait) b refl
-  decision-fits (e.Fault f) = tt
-
-  pub decision-keeps : (a : Event) → InRange (changed s (decisionOf s a .change))
-  decision-keeps a = change-keeps s (decisionOf s a .change) n (decision-fits a)
+  pub decision-keeps : (a : Event) → InRange (changed (dropMarked s a) (decisionOf s a .change))
+  decision-keeps (e.Byte b) = go (s .drop) refl
+    where
+      go : (t : Bool) → s .drop ≡ t → InRange (changed (withDrop s false) (cond t (sends Silent) (byteDecision s (s .wait) b) .change))
+      go true u = record { page = n .page; wait = n .wait; no-drop-beside-a-wait = λ p. absurd (false≢true p) }
+      go false u = let d = byteDecision s (s .wait) b in subst (λ (t : State). InRange (changed t (d .change))) (sym (drop-same s u)) (change-keeps s (d .change) n u (byte-fits (s .wait) b refl))
+  decision-keeps (e.Fault f) = record { page = n .page; wait = n .wait; no-drop-beside-a-wait = idle-is (s .wait) }
 
 -- ERROR and a received packet are in no range
 pub event-keeps : (s : State) (a : Event) (ss : List ℕ) (m : ℕ) → Keeps s a ss m
 unfolding effectOf effectFrom
-event-keeps s a ss m n = let kept = decision-keeps s n a in record { page = kept .page; wait = kept .wait }
+event-keeps s a ss m n = let kept = decision-keeps s n a in record { page = kept .page; wait = kept .wait; no-drop-beside-a-wait = kept .no-drop-beside-a-wait }
+
+pub event-drop : (s : State) (a : Event) (ss : List ℕ) (m : ℕ) → DropsAfter s a ss m
+unfolding effectOf effectFrom
+event-drop s a ss m = ap (λ (t : State). t .drop) (change-marked s (dropAfter (s .wait) a) (decisionOf s a .change))

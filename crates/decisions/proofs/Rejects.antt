@@ -1,20 +1,24 @@
 -- A rejected byte returns one code, which ERROR holds then, changes nothing else of the state and moves no pin. Assumes nothing.
 use Prim.Native.Nat.{ℕ}
 use mathlib.Core.Path.{_≡_, refl, sym, _∙_, subst}
-use mathlib.Core.Bool.{Bool, true, false, _||_, true≢false}
+use mathlib.Core.Bool.{Bool, true, false, cond, _||_, true≢false, false≢true}
 use mathlib.Core.List.{List}
 use Rattle.codes.specs.Codes.{rejecting}
 use Rattle.codes.proofs.Both.{both-left}
 use Rattle.registers.specs.declared.State.{State}
+use Rattle.registers.specs.Registers.{withDrop}
+use Rattle.registers.specs.declared.Fault.the-variants as f
 use Rattle.registers.specs.declared.Event.{Event}
+use Rattle.registers.specs.declared.Event.the-variants as e
 use Rattle.signals.specs.Waveforms.{waveOf}
 use Rattle.decisions.specs.Said.{errorAfter, codesOf, isRejected}
-use Rattle.decisions.specs.Decisions.{Decision, ReturnsAndSends, returns, sends}
+use Rattle.decisions.specs.Decisions.{Decision, Silent, ReturnsAndSends, returns, sends}
 use Rattle.decisions.specs.Effects.{effectFrom, carriedOut}
-use Rattle.decisions.specs.Events.{decisionOf, effectOf}
+use Rattle.decisions.specs.Events.{byteDecision, effectOf}
 use Rattle.decisions.specs.Promises.{OnlyError, Rejects}
 use Rattle.decisions.proofs.Answers.{accepting, accepting-said}
-use Rattle.decisions.proofs.Sorted.{Sorted, is-proper, coded, coded-and-sent, decision-sorted}
+use Rattle.decisions.proofs.Changes.{drop-same}
+use Rattle.decisions.proofs.Sorted.{Sorted, is-proper, coded, coded-and-sent, byte-sorted}
 
 or-true : (t : Bool) → t || false ≡ true → t ≡ true
 or-true true h = refl
@@ -38,6 +42,20 @@ module _ (s : State) (ss : List ℕ) (m : ℕ) where
   only-error d (coded code q) h = subst Only (sym q) (returned-only code) h
   only-error d (coded-and-sent code q) h = subst Only (sym q) (sent-only code) h
 
+-- a byte that is dropped is not rejected
+byte-only : (s : State) (b : ℕ) (ss : List ℕ) (m : ℕ) (pending : Bool) → s .drop ≡ pending →
+    let x = carriedOut (withDrop s false) (cond pending (sends Silent) (byteDecision s (s .wait) b)) ss m in
+    isRejected (x .said) ≡ true → OnlyError s x
+unfolding effectFrom codesOf
+byte-only s b ss m true u h = absurd (false≢true h)
+byte-only s b ss m false u h =
+    let d = byteDecision s (s .wait) b in
+    subst (λ (t : State). OnlyError t (carriedOut (withDrop s false) d ss m)) (drop-same s u) (only-error (withDrop s false) ss m d (byte-sorted s (s .wait) b) h)
+
+-- .. and a fault's code rejects nothing
 pub event-rejects : (s : State) (a : Event) (ss : List ℕ) (m : ℕ) → Rejects s a ss m
-unfolding effectOf
-event-rejects s a ss m h = only-error s ss m (decisionOf s a) (decision-sorted s a) h
+unfolding effectOf effectFrom codesOf
+event-rejects s (e.Byte b) ss m h = byte-only s b ss m (s .drop) refl h
+event-rejects s (e.Fault f.Frame) ss m h = absurd (false≢true h)
+event-rejects s (e.Fault f.Overrun) ss m h = absurd (false≢true h)
+event-rejects s (e.Fault f.Parity) ss m h = absurd (false≢true h)

@@ -12,7 +12,7 @@ use Rattle.signals.proofs.Samples.{wave-takes, wave-same}
 use Rattle.decisions.specs.Decisions.{Decision}
 use Rattle.decisions.specs.Changes.{changed}
 use Rattle.decisions.specs.Effects.{effectFrom}
-use Rattle.decisions.specs.Events.{decisionOf, effectOf}
+use Rattle.decisions.specs.Events.{decisionOf, dropMarked, effectOf}
 use Rattle.decisions.specs.Promises.{EventTakes, EventSame}
 use Rattle.decisions.proofs.Changes.{change-packet}
 use Rattle.decisions.proofs.Keeps.{decision-keeps}
@@ -29,9 +29,13 @@ pub event-takes : (s : State) (a : Event) (ss : List ℕ) (m : ℕ) → EventTak
 unfolding effectOf effectFrom
 event-takes s a ss m n z =
     let d = decisionOf s a in
-    wave-takes (changed s (d .change) .page) (d .wave) ss m
-    (record { verb = sorted-steady d (decision-sorted s a); bits = decision-keeps s n a .page .size-register; register = change-packet s (d .change) (z .packet) })
+    let t = dropMarked s a in
+    wave-takes (changed t (d .change) .page) (d .wave) ss m
+    (record { verb = sorted-steady d (decision-sorted s a); bits = decision-keeps s n a .page .size-register; register = change-packet t (d .change) (z .packet) })
 
 pub event-same : (s : State) (a : Event) (ss : List ℕ) (m : ℕ) (us : List ℕ) (k : ℕ) → EventSame s a ss m us k
 unfolding effectOf effectFrom
-event-same s a ss m us k h = let d = decisionOf s a in ap (effectFrom (changed s (d .change)) (d .answer)) (wave-same (changed s (d .change) .page) (d .wave) ss m us k h)
+event-same s a ss m us k h =
+    let d = decisionOf s a in
+    let t = changed (dropMarked s a) (d .change) in
+    ap (effectFrom t (d .answer)) (wave-same (t .page) (d .wave) ss m us k h)

@@ -87,7 +87,7 @@ module _ (s : State) where
   loaded-sorted at b true = is-proper refl
   loaded-sorted at b false = is-proper refl
 
-  byte-sorted : (a : Wait) (b : ℕ) → Sorted (byteDecision s a b)
+  pub byte-sorted : (a : Wait) (b : ℕ) → Sorted (byteDecision s a b)
   byte-sorted v.Nothing b = decided-sorted false b (legalityOf (s .page .flags) (s .page .configured) (commandOf false b))
   byte-sorted (v.One a) b = operand-sorted a b
   byte-sorted v.Extended b = decided-sorted true b (legalityOf (s .page .flags) (s .page .configured) (commandOf true b))
@@ -95,7 +95,7 @@ module _ (s : State) where
   byte-sorted (v.Timings left) b = either Sorted (eqb left 1) _ _ (is-proper refl) (is-proper refl)
 
   pub decision-sorted : (a : Event) → Sorted (decisionOf s a)
-  decision-sorted (e.Byte b) = byte-sorted (s .wait) b
+  decision-sorted (e.Byte b) = either Sorted (s .drop) _ _ (is-proper refl) (byte-sorted (s .wait) b)
   decision-sorted (e.Fault f.Frame) = is-proper refl
   decision-sorted (e.Fault f.Overrun) = is-proper refl
   decision-sorted (e.Fault f.Parity) = is-proper refl

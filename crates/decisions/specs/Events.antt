@@ -2,9 +2,9 @@
 -- The clauses of the commands are in Common, Extended, I2c, Spi and OneWire, those of other bytes in Operands, that of a rejected command
 -- in Rejections, and what a change means is in Changes. Which command a byte is and whether it is legal is in commands/specs/.
 use Prim.Native.Nat.{ℕ}
-use mathlib.Core.Bool.{Bool, true, false}
+use mathlib.Core.Bool.{Bool, true, false, cond}
 use mathlib.Core.List.{List}
-use Rattle.registers.specs.Registers.{bitsIn, faultCode}
+use Rattle.registers.specs.Registers.{bitsIn, withDrop, isIdle, faultCode}
 use Rattle.registers.specs.declared.State.{State}
 use Rattle.registers.specs.declared.Wait.{Wait}
 use Rattle.registers.specs.declared.Wait.the-variants as v
@@ -59,11 +59,21 @@ byteDecision s v.Extended x = commandDecision s (commandOf true x)
 byteDecision s (v.Packet left exchange) x = packetClause (bitsIn (s .page)) left exchange x
 byteDecision s (v.Timings left) x = timingsClause left x
 
--- AN EVENT; "A fault returns its code; the byte it came with is lost, any wait stays."
+-- AN EVENT; "A fault returns its code; the byte it came with is lost, any wait stays." Where a drop is pending, "the byte ends the drop and
+-- does nothing else" (02, Ask 2).
 abbrev pub decisionOf : State → Event → Decision
-decisionOf s (e.Byte x) = byteDecision s (s .wait) x
+decisionOf s (e.Byte x) = cond (s .drop) (sends Silent) (byteDecision s (s .wait) x)
 decisionOf s (e.Fault f) = returns (faultCode f)
+
+-- WHETHER A DROP IS PENDING AFTER IT: "Between commands .. a fault also makes the bridge drop the next good byte without a code. .. Inside an
+-- item the rule of 01 stays"
+abbrev pub dropAfter : Wait → Event → Bool
+dropAfter w (e.Byte x) = false
+dropAfter w (e.Fault f) = isIdle w
+
+abbrev pub dropMarked : State → Event → State
+dropMarked s ev = withDrop s (dropAfter (s .wait) ev)
 
 -- with the samples from place m on
 unfoldable pub effectOf : State → Event → List ℕ → ℕ → Effect
-effectOf s ev ss m = carriedOut s (decisionOf s ev) ss m
+effectOf s ev ss m = carriedOut (dropMarked s ev) (decisionOf s ev) ss m

@@ -13,11 +13,15 @@ use Rattle.registers.specs.declared.State.{State}
 use Rattle.registers.specs.declared.Event.{Event}
 use Rattle.decisions.specs.Said.{codesOf, isRejected}
 use Rattle.decisions.specs.Effects.{Effect, sentBy}
-use Rattle.decisions.specs.Events.{effectOf}
+use Rattle.decisions.specs.Events.{dropAfter, effectOf}
 
 -- `event-keeps` in proofs/Keeps.antt: no event breaks a range
 abbrev pub Keeps : State → Event → List ℕ → ℕ → Type 0
 Keeps s e ss m = InRange s → InRange ((effectOf s e ss m) .state)
+
+-- `event-drop` in proofs/Keeps.antt: a drop is pending after it exactly if it is a fault between commands
+abbrev pub DropsAfter : State → Event → List ℕ → ℕ → Type 0
+DropsAfter s e ss m = (effectOf s e ss m) .state .drop ≡ dropAfter (s .wait) e
 
 -- `event-rejects` in proofs/Rejects.antt: it returns one code, 80, 84 or 40; "of the state it touches only ERROR", which holds that
 -- code then; and it moves no pin and uses no sample

@@ -1,9 +1,11 @@
 // What an event decides: a byte by what is waited for, or a line fault.
 ghost use mathlib.Core.Path.{_≡_};
+ghost use mathlib.Core.Bool.{cond};
 ghost use Prim.Native.Nat.{_<_};
 ghost use Rattle.packet.specs.Packet.{width};
 ghost use Rattle.registers.specs.Ranges.{InRange};
 ghost use Rattle.commands.specs.Commands.{commandOf};
+ghost use Rattle.decisions.specs.Decisions.{sends};
 ghost use Rattle.decisions.specs.Events.{clauseOf, commandDecision, waitsExtended, byteDecision};
 use crate::Answer;
 use crate::Decision;
@@ -73,11 +75,14 @@ fn waits_extended(w: Wait) -> bool
     }
 }
 
-// A byte, by what is waited for. The caller shows that the state breaks no range.
+// A byte, dropped or by what is waited for. The caller shows that the state breaks no range.
 pub(crate) fn byte(s: State, x: u8) -> Decision
     requires { ⌜ InRange s ⌝ }
-    ensures { λ p. ⌜ p ≡ byteDecision s (s .wait) x ⌝ }
+    ensures { λ p. ⌜ p ≡ cond (s .drop) (sends Answer.Silent) (byteDecision s (s .wait) x) ⌝ }
 {
+    if s.drop {
+        return sending(Answer::Silent);
+    }
     let w = s.wait;
     match w {
         Wait::Nothing | Wait::Extended => command(s, waits_extended(w), x),

@@ -1,7 +1,7 @@
 // What an event decides: what it changes, which waveform it makes, and what it answers.
 ghost use mathlib.Core.Path.{_≡_};
 ghost use Rattle.registers.specs.Ranges.{InRange};
-ghost use Rattle.decisions.specs.Events.{decisionOf};
+ghost use Rattle.decisions.specs.Events.{decisionOf, dropAfter};
 
 mod common;
 mod events;
@@ -74,5 +74,15 @@ pub fn decision_of(s: State, e: Event) -> Decision
     match e {
         Event::Byte(x) => events::byte(s, x),
         Event::Fault(f) => kinds::returning(registers::fault_code(f)),
+    }
+}
+
+// Whether a drop is pending after an event: a line fault between commands leaves one, and a byte ends it.
+pub fn drop_after(w: Wait, e: Event) -> bool
+    ensures { λ r. ⌜ r ≡ dropAfter w e ⌝ }
+{
+    match e {
+        Event::Byte(_) => false,
+        Event::Fault(_) => registers::is_idle(w),
     }
 }

@@ -13,7 +13,7 @@ use Rattle.grammar.specs.Verdict.{FirstWrong, CodeAt}
 pub record Machine : Type 1 where
   pub State : Type 0
   pub Lent : Type 0
-  -- the state breaks no range
+  -- the state breaks no range, and no byte is to be dropped
   pub Good : State → Type 0
   -- the state waits for nothing
   pub Idle : State → Type 0

@@ -29,7 +29,7 @@ refusals = Ranges ∷ Samples ∷ Actions ∷ Replies ∷ Header ∷ Length ∷ 
 abbrev pub InOrder : Type 0
 InOrder = map numberOf refusals ≡ 1 ∷ 2 ∷ 3 ∷ 4 ∷ 5 ∷ 6 ∷ 7 ∷ 8 ∷ 9 ∷ 10 ∷ 11 ∷ 12 ∷ []
 
--- the words of numbers 1 to 12
+-- the words of numbers 1 to 12; "12 also for a pending drop" (02, Ask 2)
 abbrev pub tableWords : List String
 tableWords =
     "the state breaks its ranges" ∷
@@ -43,7 +43,7 @@ tableWords =
     "a fault body is not one byte of 81, 82, 83 hex" ∷
     "session over 32,768 bytes" ∷
     "factory image not good" ∷
-    "judge's start waits for something" ∷
+    "judge's start waits for something or drops a byte" ∷
     []
 
 -- the widest words

@@ -37,7 +37,7 @@ const WORDS: [[u8; WORDS_WIDTH]; NUMBERS] = [
     *b"a fault body is not one byte of 81, 82, 83 hex   ",
     *b"session over 32,768 bytes                        ",
     *b"factory image not good                           ",
-    *b"judge's start waits for something                ",
+    *b"judge's start waits for something or drops a byte",
 ];
 
 // A refusal's number in 01.

@@ -1,14 +1,14 @@
 -- The range test says exactly the facts of 01's table. Assumes nothing.
 use Prim.Native.Nat.{ℕ, _%_, _≤_}
-use mathlib.Core.Path.{_≡_, refl, subst}
-use mathlib.Core.Bool.{Bool, true, _&&_}
+use mathlib.Core.Path.{_≡_, refl, ap, subst}
+use mathlib.Core.Bool.{Bool, true, false, _&&_, false≢true}
 use mathlib.Core.Logic.{_↔_}
 use borrow.Author.Tests.{lt-ltb, le-leb, eq-eqb, ltb-true, leb-true, eqb-true}
 use lib.Dec.{eqb, leb, ltb}
 use Rattle.codes.proofs.Both.{both-left, both-right}
 use Rattle.packet.specs.Packet.{width, packetBytes}
-use Rattle.registers.specs.Registers.{Page, State, Operand, ToPort, ToCycles, ToI2c, ToConfig, ToSize, ToOneWire, ToOneWireBit, ToOneWireStrong, Wait, Nothing, One, Extended, Packet, Timings, spiSelected, oneWireSelected, bitsIn, timingBytes}
-use Rattle.registers.specs.Ranges.{selectedCount, operandFits, waitFits, pageFits, PageInRange, OperandInRange, WaitInRange, InRange, RangeTest}
+use Rattle.registers.specs.Registers.{Page, State, Operand, ToPort, ToCycles, ToI2c, ToConfig, ToSize, ToOneWire, ToOneWireBit, ToOneWireStrong, Wait, Nothing, One, Extended, Packet, Timings, spiSelected, oneWireSelected, bitsIn, isIdle, timingBytes}
+use Rattle.registers.specs.Ranges.{selectedCount, operandFits, waitFits, pageFits, dropFits, PageInRange, OperandInRange, WaitInRange, InRange, RangeTest}
 
 both : {a b : Bool} → a ≡ true → b ≡ true → a && b ≡ true
 both p q = rw (p, q)
@@ -84,11 +84,28 @@ wait-tested Extended flags configured n r = refl
 wait-tested (Packet left exchange) flags configured n r = both (both (both (r .spi-selected) (r .spi-configured)) (le-leb _ _ (r .one-or-more))) (le-leb _ _ (r .packet-or-less))
 wait-tested (Timings left) flags configured n r = both (both (r .one-wire-selected) (le-leb _ _ (r .one-or-more))) (le-leb _ _ (r .nine-or-less))
 
+-- A DROP
+
+pub idle-is : (w : Wait) → isIdle w ≡ true → w ≡ Nothing
+idle-is Nothing e = refl
+idle-is (One o) e = absurd (false≢true e)
+idle-is Extended e = absurd (false≢true e)
+idle-is (Packet left exchange) e = absurd (false≢true e)
+idle-is (Timings left) e = absurd (false≢true e)
+
+drop-test : (pending : Bool) (w : Wait) → (dropFits pending w ≡ true) ↔ (pending ≡ true → w ≡ Nothing)
+drop-test true w = (λ e p. idle-is w e, λ f. ap isIdle (f refl))
+drop-test false w = (λ e p. absurd (false≢true p), λ f. refl)
+
 pub range-test : (s : State) → RangeTest s
 range-test s =
-    let w = waitFits (s .wait) (s .page .flags) (s .page .configured) (bitsIn (s .page)) in (
-      λ e. record { page = facts (s .page) (both-left (pageFits (s .page)) w e); wait = wait-facts (s .wait) _ _ _ (both-right (pageFits (s .page)) w e) },
-      λ r. both (tested (s .page) (r .page)) (wait-tested (s .wait) _ _ _ (r .wait)),
+    let p = pageFits (s .page) in
+    let w = waitFits (s .wait) (s .page .flags) (s .page .configured) (bitsIn (s .page)) in
+    let d = dropFits (s .drop) (s .wait) in (
+      λ e.
+      let e1 = both-left (p && w) d e in
+      record { page = facts (s .page) (both-left p w e1); wait = wait-facts (s .wait) _ _ _ (both-right p w e1); no-drop-beside-a-wait = drop-test (s .drop) (s .wait) .0 (both-right (p && w) d e) },
+      λ r. both (both (tested (s .page) (r .page)) (wait-tested (s .wait) _ _ _ (r .wait))) (drop-test (s .drop) (s .wait) .1 (r .no-drop-beside-a-wait)),
     )
 
 -- WHAT A WAIT'S FACTS SAY, where the wait is known

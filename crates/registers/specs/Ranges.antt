@@ -1,12 +1,12 @@
 -- The ranges of a state (01, "Refusal numbers", row 1): the test, and the facts that it stands for.
 use Prim.Native.Nat.{ℕ, _+_, _/_, _%_, _<_, _≤_}
 use mathlib.Core.Path.{_≡_}
-use mathlib.Core.Bool.{Bool, true, _&&_}
+use mathlib.Core.Bool.{Bool, true, false, cond, _&&_}
 use mathlib.Core.Logic.{_↔_}
 use lib.ListN.{length}
 use lib.Dec.{eqb, leb, ltb}
 use Rattle.packet.specs.Packet.{width, registerBytes, packetBytes}
-use Rattle.registers.specs.Registers.{Page, State, Operand, ToPort, ToCycles, ToI2c, ToConfig, ToSize, ToOneWire, ToOneWireBit, ToOneWireStrong, Wait, Nothing, One, Extended, Packet, Timings, i2cSelected, spiSelected, oneWireSelected, bitsIn, timingBytes, imageBytes, serialBytes}
+use Rattle.registers.specs.Registers.{Page, State, Operand, ToPort, ToCycles, ToI2c, ToConfig, ToSize, ToOneWire, ToOneWireBit, ToOneWireStrong, Wait, Nothing, One, Extended, Packet, Timings, i2cSelected, spiSelected, oneWireSelected, bitsIn, isIdle, timingBytes, imageBytes, serialBytes}
 
 -- how many interfaces are selected
 abbrev pub selectedCount : ℕ → ℕ
@@ -37,8 +37,12 @@ pageFits p =
     leb (selectedCount (p .flags)) 1 && ltb (p .flags) 32 && ltb (p .size) width && leb (p .config) 7
     && ltb (p .ddrc) 64 && ltb (p .portc) 64 && eqb (p .ddrd % 4) 0 && eqb (p .portd % 4) 0
 
+-- "1 also for a drop beside a wait" (02, Ask 2)
+abbrev pub dropFits : Bool → Wait → Bool
+dropFits pending w = cond pending (isIdle w) true
+
 abbrev pub stateFits : State → Bool
-stateFits s = pageFits (s .page) && waitFits (s .wait) (s .page .flags) (s .page .configured) (bitsIn (s .page))
+stateFits s = pageFits (s .page) && waitFits (s .wait) (s .page .flags) (s .page .configured) (bitsIn (s .page)) && dropFits (s .drop) (s .wait)
 
 -- THE FACTS, by name, over the registers that have a range
 pub record Ranges (flags size config ddrc portc ddrd portd : ℕ) : Type 0 where
@@ -86,6 +90,14 @@ WaitInRange (Timings left) flags configured n = TimingWait flags left
 pub record InRange (s : State) : Type 0 where
   pub page : PageInRange (s .page)
   pub wait : WaitInRange (s .wait) (s .page .flags) (s .page .configured) (bitsIn (s .page))
+  -- a drop is pending only where nothing is waited for
+  pub no-drop-beside-a-wait : s .drop ≡ true → s .wait ≡ Nothing
+
+-- 01, "Grammar": "A start between commands breaks no range and waits for nothing"; it "starts with no drop pending" (02, Ask 2)
+pub record BetweenCommands (s : State) : Type 0 where
+  pub in-range : InRange s
+  pub waits-for-nothing : s .wait ≡ Nothing
+  pub no-drop : s .drop ≡ false
 
 -- THEOREM (proofs/InRange.antt, `range-test`): the test says exactly these facts
 abbrev pub RangeTest : State → Type 0

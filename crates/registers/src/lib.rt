@@ -1,7 +1,7 @@
-// The state: one page of registers, what is shared, the wait, and the bytes held for it.
+// The state: one page of registers, what is shared, the wait with the bytes held for it, and whether the next byte is dropped.
 ghost use mathlib.Core.Path.{_≡_};
-ghost use Rattle.registers.specs.Registers.{faultCode, bitsOf};
-ghost use Rattle.registers.specs.Ranges.{operandFits, waitFits, pageFits, stateFits};
+ghost use Rattle.registers.specs.Registers.{faultCode, bitsOf, isIdle};
+ghost use Rattle.registers.specs.Ranges.{operandFits, waitFits, pageFits, dropFits, stateFits};
 
 pub mod bits;
 pub mod parts;
@@ -91,8 +91,10 @@ pub enum Wait {
     Extended,
 }
 
-// The state; `held` has the packet or timing bytes that came in for the wait so far.
+// The state; `held` has the packet or timing bytes that came in for the wait so far, and `drop` says that a line fault makes the next
+// byte be dropped.
 pub struct State {
+    pub drop: bool,
     pub shared: Shared,
     pub held: [u8; HELD],
     pub page: Page,
@@ -120,6 +122,22 @@ pub fn fault_code(f: Fault) -> u8
         Fault::Frame => codes::FRAME,
         Fault::Overrun => codes::OVERRUN,
         Fault::Parity => codes::PARITY,
+    }
+}
+
+// Whether nothing is waited for.
+pub fn is_idle(w: Wait) -> bool
+    ensures { λ r. ⌜ r ≡ isIdle w ⌝ }
+{
+    match w {
+        Wait::Nothing => true,
+        Wait::One(_) => false,
+        Wait::Extended => false,
+        Wait::Packet {
+            left: _,
+            exchange: _,
+        } => false,
+        Wait::Timings { left: _ } => false,
     }
 }
 
@@ -167,11 +185,17 @@ fn page_fits(p: Page) -> bool
         & (p.portd % 4 == 0)
 }
 
+fn drop_fits(pending: bool, w: Wait) -> bool
+    ensures { λ r. ⌜ r ≡ dropFits pending w ⌝ }
+{
+    if pending { is_idle(w) } else { true }
+}
+
 // Whether a state breaks no range; if it breaks one, a call is refused with 1.
 pub fn in_range(s: State) -> bool
     ensures { λ r. ⌜ r ≡ stateFits s ⌝ }
 {
     let p = s.page;
     let w = s.wait;
-    page_fits(p) & wait_fits(w, p.flags, p.configured, p.size)
+    page_fits(p) & wait_fits(w, p.flags, p.configured, p.size) & drop_fits(s.drop, w)
 }

@@ -123,6 +123,7 @@ pub fn with_wait(s: State, wait: Wait, held: [u8; HELD]) -> State
         shared,
         wait,
         held,
+        drop: s.drop,
     }
 }
 

@@ -33,8 +33,10 @@ const AT_LEFT: usize = AT_WAIT + 1;
 
 const AT_HELD: usize = AT_LEFT + 1;
 
+const AT_DROP: usize = AT_HELD + registers::HELD;
+
 // How many bytes a state is.
-pub const SIZE: usize = AT_HELD + registers::HELD;
+pub const SIZE: usize = AT_DROP + 1;
 
 // What is waited for, by its number; nothing for a number that is none.
 fn wait_of(code: u8, left: u8) -> Wait
@@ -169,7 +171,7 @@ pub fn is_state(bytes: &[u8]) -> bool
     let configured = bytes[AT_CONFIGURED];
     let code = bytes[AT_WAIT];
     let left = bytes[AT_LEFT];
-    (configured <= 1) & (code <= 17) & ((15 <= code) | (left == 0))
+    (configured <= 1) & (code <= 17) & ((15 <= code) | (left == 0)) & (bytes[AT_DROP] <= 1)
 }
 
 // The state of bytes. The caller shows that they are as many as a state's.
@@ -186,5 +188,6 @@ pub fn state_of(bytes: &[u8]) -> State
         shared,
         wait,
         held,
+        drop: bytes[AT_DROP] == 1,
     }
 }

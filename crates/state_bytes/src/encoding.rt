@@ -161,7 +161,9 @@ fn put_state(out: &mut [u8], s: State) -> usize
     let b = put_shared(out, a, shared);
     let wait = s.wait;
     let held = s.held;
-    put_wait(out, b, wait, held)
+    let c = put_wait(out, b, wait, held);
+    let drop = mark(s.drop);
+    wire::put_bytes(out, c, &[drop])
 }
 
 // The state goes to lent bytes. The caller shows that they are as many as a state's.

@@ -63,6 +63,7 @@ fn zero() -> State
         },
         wait: Wait::Nothing,
         held: [0; registers::HELD],
+        drop: false,
     }
 }
 
@@ -94,6 +95,7 @@ fn state(page: Page, eprom: [u8; registers::IMAGE], device: Device) -> State
         shared,
         wait: Wait::Nothing,
         held: [0; registers::HELD],
+        drop: false,
     }
 }
 

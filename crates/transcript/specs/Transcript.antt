@@ -17,7 +17,7 @@ use Rattle.decisions.specs.Events.{effectOf}
 use Rattle.bridge.specs.Answering.{Lent, lent, Given, effect, answerOf}
 use Rattle.bridge.specs.declared.Bridge.{Bridge}
 use Rattle.bridge.specs.declared.Outcome.the-variants.{Taken}
-use Rattle.bridge.specs.Judging.{isIdle}
+use Rattle.registers.specs.Registers.{isIdle}
 use Rattle.refusals.specs.Refusals.{numberOf}
 use Rattle.refusals.specs.declared.Refusal.{Refusal}
 use Rattle.records.specs.Records.{word16, word32, recordOf}

@@ -10,7 +10,7 @@ ghost use Rattle.signals.specs.Waveforms.{waveOf};
 ghost use Rattle.effects.specs.Replies.{replyBytes};
 ghost use Rattle.transcript.specs.Transcript.{unlessEmpty, lastOf, refusalOf};
 ghost use Rattle.transcript.specs.Events.{Headed};
-ghost use Rattle.bridge.specs.Judging.{isIdle};
+ghost use Rattle.registers.specs.Registers.{isIdle};
 use effects::Reply;
 use effects::sending::put_reply;
 use records::reading::HEADER;
@@ -71,7 +71,7 @@ pub(crate) fn put_replies(out: &mut [u8], at: usize, s: State, reply: Reply, siz
 fn waits(w: Wait) -> u8
     ensures { λ r. ⌜ r ≡ cond (isIdle w) 0 1 ⌝ }
 {
-    if bridge::is_idle(w) { 0 } else { 1 }
+    if registers::is_idle(w) { 0 } else { 1 }
 }
 
 // The last record, at the front of a buffer in which the caller shows room for it.

@@ -1,4 +1,4 @@
--- The page's test and the wait's.
+-- The page's test, the wait's and the drop's.
 use borrow.Author.Needs.{needs}
 use Rattle.registers.proofs.in_range.Statement.{statement}
 use Rattle.registers.proofs.in_range.Tie as tie
@@ -9,4 +9,5 @@ in-range-spec =
     (tie.spec
     (λ c κs. search needs)
     (λ c κs. search needs)
-    (λ c. rw (c .before .page-fits .ensures, c .wait-fits .ensures)))
+    (λ c κs. search needs)
+    (λ c. rw (c .before .before .page-fits .ensures, c .before .wait-fits .ensures, c .drop-fits .ensures)))

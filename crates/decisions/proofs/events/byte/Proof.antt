@@ -1,8 +1,8 @@
--- By what is waited for, the clause of its own.
+-- Dropped; else by what is waited for, the clause of its own.
 use borrow.Author.Needs.{needs}
 use Prim.Native.Nat.{ℕ}
 use mathlib.Core.Path.{_≡_, refl, sym, ap, _∙_}
-use mathlib.Core.Bool.{Bool}
+use mathlib.Core.Bool.{Bool, false, cond}
 use mathlib.Core.List.{[], _∷_}
 use mathlib.Core.Logic.{⊎-elim}
 use native.Mathlib.Omega.{arith}
@@ -14,6 +14,7 @@ use Rattle.registers.specs.declared.Wait.the-variants as v
 use Rattle.registers.proofs.Wait as wait-enum
 use Rattle.registers.proofs.InRange.{packet-left, timings-left}
 use Rattle.commands.specs.Commands.{commandOf}
+use Rattle.decisions.specs.Decisions.{Decision, Silent, sends}
 use Rattle.decisions.specs.Events.{commandDecision, waitsExtended, byteDecision}
 use Rattle.decisions.proofs.events.byte.Statement.{statement}
 use Rattle.decisions.proofs.events.byte.Tie as tie
@@ -29,19 +30,37 @@ by-command s v.Extended x h = refl
 by-command s (v.Packet left exchange) x h = ⊎-elim (λ q. absurd (omega arith)) (λ q. absurd (omega arith)) h
 by-command s (v.Timings left) x h = ⊎-elim (λ q. absurd (omega arith)) (λ q. absurd (omega arith)) h
 
+-- what is not dropped
+undropped : (s : State) (d : Decision) (x : ℕ) → s .drop ≡ false → d ≡ byteDecision s (s .wait) x → d ≡ cond (s .drop) (sends Silent) (byteDecision s (s .wait) x)
+undropped s d x u e = e ∙ ap (λ (pending : Bool). cond pending (sends Silent) (byteDecision s (s .wait) x)) (sym u)
+
 pub byte-spec : {M : Type 1} → statement M
 byte-spec =
     tie.close
     (tie.spec
     (λ c κs. search needs)
+    (λ c. rw (c .before .if1 .taken) (c .sending .ensures))
+    (λ c κs. search needs)
     (λ c κs. search needs)
     (λ c. search needs)
     (λ c κs. search needs)
     (λ c. search needs)
-    (λ c κs. packet-left (c .before .before .before .args .s) _ _ (c .before .before .before .pre) (c .before .w2 .given .1))
+    (λ c κs. let i = c .before .before .before in packet-left (i .before .args .s) _ _ (i .before .pre) (c .before .w2 .given .1))
     (λ c. search needs)
-    (λ c κs. timings-left (c .before .before .before .args .s) _ (c .before .before .before .pre) (c .before .w3 .given .1))
-    (λ c. let a = c .before .before .before .args in c .command .ensures ∙ ap (λ (e : Bool). commandDecision (a .s) (commandOf e (a .x))) (c .before .waits-extended .ensures) ∙ by-command (a .s) (a .s .wait) (a .x) (c .before .before .match .keys1))
-    (λ c. c .clause .ensures ∙ by-wait (c .before .before .before .before .args .s) _ (c .before .before .before .before .args .x) (c .before .before .w .given .1))
-    (λ c. c .packet-byte .ensures ∙ by-wait (c .before .before .before .before .args .s) _ (c .before .before .before .before .args .x) (c .before .before .w2 .given .1))
-    (λ c. c .timing-byte .ensures ∙ by-wait (c .before .before .before .before .args .s) _ (c .before .before .before .before .args .x) (c .before .before .w3 .given .1)))
+    (λ c κs. let i = c .before .before .before in timings-left (i .before .args .s) _ (i .before .pre) (c .before .w3 .given .1))
+    (λ c.
+    let i = c .before .before .before in
+    let a = i .before .args in
+    undropped (a .s) _ (a .x) (i .if1 .left) (c .command .ensures ∙ ap (λ (e : Bool). commandDecision (a .s) (commandOf e (a .x))) (c .before .waits-extended .ensures) ∙ by-command (a .s) (a .s .wait) (a .x) (c .before .before .match .keys1)))
+    (λ c.
+    let i = c .before .before .before .before in
+    let a = i .before .args in
+    undropped (a .s) _ (a .x) (i .if1 .left) (c .clause .ensures ∙ by-wait (a .s) _ (a .x) (c .before .before .w .given .1)))
+    (λ c.
+    let i = c .before .before .before .before in
+    let a = i .before .args in
+    undropped (a .s) _ (a .x) (i .if1 .left) (c .packet-byte .ensures ∙ by-wait (a .s) _ (a .x) (c .before .before .w2 .given .1)))
+    (λ c.
+    let i = c .before .before .before .before in
+    let a = i .before .args in
+    undropped (a .s) _ (a .x) (i .if1 .left) (c .timing-byte .ensures ∙ by-wait (a .s) _ (a .x) (c .before .before .w3 .given .1))))
