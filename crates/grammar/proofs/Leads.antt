@@ -8,7 +8,7 @@ use Rattle.grammar.specs.Following.{scannerAfter, followed, Leads}
 use Rattle.grammar.proofs.Follows.{Agree, Follows, along}
 use Rattle.grammar.proofs.Demand3.{seen-between}
 
-agreed : (o : Scanned) (ws : List ℕ) (v w : Scanner) → Agree o ws v w → w ≡ scannerAfter v o
+pub agreed : (o : Scanned) (ws : List ℕ) (v w : Scanner) → Agree o ws v w → w ≡ scannerAfter v o
 agreed (Accepted h) ws v w a = a .1
 agreed (Rejected x) ws v w a = a .1
 

@@ -8,8 +8,8 @@ use native.Mathlib.Omega.{arith}
 use borrow.Author.Tests.{le-leb, lt-leb}
 use lib.ListN.{length}
 use Rattle.grammar.specs.Grammar.{factoryContext}
-use Rattle.grammar.specs.Scanner.{between}
-use Rattle.grammar.specs.declared.Scanner.{Scanner}
+use Rattle.grammar.specs.Following.{undisturbed}
+use Rattle.grammar.specs.declared.following.Stream.{Stream}
 use Rattle.text.specs.Words.{past}
 use Rattle.text.specs.Lists.{read, Reads}
 use Rattle.text.specs.declared.Assembled.{Assembled}
@@ -20,22 +20,22 @@ use Rattle.text.specs.declared.words.Class.the-variants as k
 use Rattle.text.specs.declared.Stop.the-variants.{Done, Wrong}
 use Rattle.text.proofs.Loops.{Loop, last-turn, loop-ends, loop-on}
 
--- at the loop's head, with the text from a place on left and the bytes so far leading to g
-abbrev pub Assembling : List ℕ → List ℕ → List ℕ → Scanner → ℕ → ℕ → Type 0
+-- at the loop's head, with the text from a place on left and the stream so far standing at g
+abbrev pub Assembling : List ℕ → List ℕ → List ℕ → Stream → ℕ → ℕ → Type 0
 Assembling t o x g at size = Loop (scriptOf t (length o)) o 0 (λ n. scriptFor n t g (length o - size) at) (length t - at) x size
 
-pub assembling-first : (t o : List ℕ) → Assembling t o o (between factoryContext) 0 0
+pub assembling-first : (t o : List ℕ) → Assembling t o o (undisturbed factoryContext) 0 0
 unfolding scriptOf
 assembling-first t o = record { turns = suc (length t); enough = omega arith; reads = λ y r q. rw (sub-zero (length o)) at q; within = omega arith; same = refl }
 
-module _ (t o x : List ℕ) (g : Scanner) (at size : ℕ) (v : Assembling t o x g at size) where
+module _ (t o x : List ℕ) (g : Stream) (at size : ℕ) (v : Assembling t o x g at size) where
   -- the text is read
   pub assembling-end : length t ≤ at → Reads (scriptOf t (length o)) o 0 x (record { size = size; stop = Done })
   unfolding scriptFor
   assembling-end h = loop-ends v Done (λ n. rw (le-leb (length t) at h))
 
   -- a line is read, which says m
-  module _ (h : at < length t) (m : Statement) (i : statementAt t (g .context) at ≡ m) (y : List ℕ) (a : Assembled) (u : Reads (recordsOf (length x - size) at m) x size y a) where
+  module _ (h : at < length t) (m : Statement) (i : statementAt t (g .scanner .context) at ≡ m) (y : List ℕ) (a : Assembled) (u : Reads (recordsOf (length x - size) at m) x size y a) where
     line-read : Reads (recordsOf (length o - size) at m) x size y a
     line-read = subst (λ (n : ℕ). Reads (recordsOf (n - size) at m) x size y a) (v .same) u
 
@@ -47,7 +47,7 @@ module _ (t o x : List ℕ) (g : Scanner) (at size : ℕ) (v : Assembling t o x 
         last-turn v (read (recordsOf (length o - size) at m .bytes) (Wrong p z)) (λ n. rw (lt-leb (length t) at h, i, sym (d .stop) ∙ e)) (record { bytes = d .bytes; size = d .size; stop = refl; within = d .within })
 
     -- .. or after which the next begins
-    pub assembling-on : a .stop ≡ Done → (f : Scanner) → f ≡ handed g m → (next : ℕ) → next ≡ past t k.Line at → Assembling t o y f (next + 1) (a .size)
+    pub assembling-on : a .stop ≡ Done → (f : Stream) → f ≡ handed g m → (next : ℕ) → next ≡ past t k.Line at → Assembling t o y f (next + 1) (a .size)
     unfolding scriptFor
     assembling-on e f j next q =
         let d = line-read in

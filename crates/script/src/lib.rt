@@ -9,8 +9,8 @@ ghost use Rattle.script.specs.Script.{recordsOf, handed, scriptOf};
 mod cut;
 mod statements;
 
-use grammar::Scanner;
 use grammar::following;
+use grammar::following::Stream;
 use statements::Parsed;
 use text::Assembled;
 use text::Stop;
@@ -39,8 +39,8 @@ fn put_parsed(parsed: Parsed, body: &[u8], at: usize, out: &mut [u8], size: usiz
     }
 }
 
-// Where the bytes lead after what a line says. The caller shows that the statement's bytes are in the buffer.
-fn hand_over(g: Scanner, parsed: Parsed, body: &[u8]) -> Scanner
+// Where the stream stands after what a line says. The caller shows that the statement's bytes are in the buffer.
+fn hand_over(g: Stream, parsed: Parsed, body: &[u8]) -> Stream
     requires { ⌜ InBuffer (now body) parsed ⌝ }
     ensures { λ r. ⌜ r ≡ handed g (meant (now (body .entry)) parsed) ⌝ }
 {
@@ -48,7 +48,10 @@ fn hand_over(g: Scanner, parsed: Parsed, body: &[u8]) -> Scanner
         Parsed::Nothing => g,
         Parsed::Bytes { kind, size } => {
             if kind == statements::BYTES {
-                return following::follow(g, &body[..size]);
+                return following::after_bytes(g, &body[..size]);
+            }
+            if kind == statements::FAULT {
+                return following::after_fault(g);
             }
             g
         }
@@ -69,7 +72,7 @@ pub fn assemble(text: &[u8], out: &mut [u8]) -> Assembled
     let mut at: usize = 0;
     let mut size: usize = 0;
     while at < text.len() {
-        let parsed = statements::statement(text, g.context, at, &mut body);
+        let parsed = statements::statement(text, g.scanner.context, at, &mut body);
         let r = put_parsed(parsed, &body, at, out, size);
         let stop = r.stop;
         size = r.size;

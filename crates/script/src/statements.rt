@@ -20,7 +20,7 @@ use text::words::word_at;
 // The kinds of records.
 pub(crate) const BYTES: u16 = 1;
 
-const FAULT: u16 = 2;
+pub(crate) const FAULT: u16 = 2;
 
 const SAMPLES: u16 = 3;
 

@@ -35,7 +35,7 @@ assemble-spec =
     (λ c κs. search needs)
     (λ c. let m = c .before .before .before .before .before .before .before .before .before .before .before .before .before .before in let s = m .before .before .before .before in record { fits = omega (arith, c .past .ensures, past-within (s .args .text .now) Line (m .loop .at) (omega (arith, c .before .before .before .before .before .before .before .before .before .before .before .before .before .loop-test .taken)), s .good) })
     (λ c. omega (arith, c .past .ensures, c .before .before .before .before .before .before .before .before .before .before .before .before .before .loop-test .taken))
-    (λ c. let m = c .before .before .before .before .before .before .before .before .before .before .before .before .before .before in let s = m .before .before .before .before in let q = c .before .before .before .before .before .before .before .before .before .before .before .statement .ensures in (assembling-on (s .args .text .now) (s .args .out .now) (m .loop .out) (m .loop .g) (m .loop .at) (m .loop .size) (m .loop .inv .0) (c .before .before .before .before .before .before .before .before .before .before .before .before .before .loop-test .taken) _ (q .is) _ _ (c .before .before .before .before .before .before .before .put-parsed .ensures) (c .before .before .before .enum-told .given .1) _ (c .before .hand-over .ensures) _ (c .past .ensures), search needs))
+    (λ c. let m = c .before .before .before .before .before .before .before .before .before .before .before .before .before .before in let s = m .before .before .before .before in let q = c .before .before .before .before .before .before .before .before .before .before .before .statement .ensures in (assembling-on (s .args .text .now) (s .args .out .now) (m .loop .out) (m .loop .g) (m .loop .at) (m .loop .size) (m .loop .inv .0) (c .before .before .before .before .before .before .before .before .before .before .before .before .before .loop-test .taken) _ (q .is) _ _ (c .before .before .before .before .before .before .before .put-parsed .ensures) (c .before .before .before .enum-told .given .1) _ (c .before .hand-over .ensures) _ (c .past .ensures), search (needs, c .before .before .before .before .before .before .before .before .before .before .body2 .given)))
     (λ c. search needs)
     (λ c. let m = c .before .before .before .before .before .before .before .before .before .before .before .before in omega (arith, m .loop .inv .0 .same))
     (λ c. let m = c .before .before .before .before .before .before .before .before .before .before .before .before in let s = m .before .before .before .before in let q = c .before .before .before .before .before .before .before .before .before .statement .ensures in assembling-wrong (s .args .text .now) (s .args .out .now) (m .loop .out) (m .loop .g) (m .loop .at) (m .loop .size) (m .loop .inv .0) (c .before .before .before .before .before .before .before .before .before .before .before .loop-test .taken) _ (q .is) _ _ (c .before .before .before .before .before .put-parsed .ensures) (c .before .stop .given .1))
