@@ -1,6 +1,7 @@
 -- For the contracts of a state and its parts as they are written: the bytes, and the sizes of the arrays, which their types give.
 use Prim.Native.Nat.{ℕ}
 use mathlib.Core.Path.{_≡_}
+use mathlib.Core.Bool.{Bool}
 use mathlib.Core.List.{List}
 use lib.ListN.{length}
 use Rattle.wire.specs.Buffer.{Written}
@@ -22,8 +23,8 @@ pub record SharedPut (h : Shared) (at : ℕ) (o x : List ℕ) (n : ℕ) : Type 0
   pub eprom : length (h .eprom) ≡ imageBytes
   pub serial : length (h .serial) ≡ serialBytes
 
-pub record WaitPut (w : Wait) (held : List ℕ) (at : ℕ) (o x : List ℕ) (n : ℕ) : Type 0 where
-  pub wrote : Written o at (waitBytes w held) x n
+pub record WaitPut (w : Wait) (held : List ℕ) (pending : Bool) (at : ℕ) (o x : List ℕ) (n : ℕ) : Type 0 where
+  pub wrote : Written o at (waitBytes w held pending) x n
   pub sized : length held ≡ heldBytes
 
 pub record StatePut (s : State) (o x : List ℕ) (n : ℕ) : Type 0 where

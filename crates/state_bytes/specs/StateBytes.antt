@@ -50,8 +50,11 @@ atLeft = atWait + 1
 abbrev pub atHeld : ℕ
 atHeld = atLeft + 1
 
+abbrev pub atDrop : ℕ
+atDrop = atHeld + heldBytes
+
 abbrev pub stateSize : ℕ
-stateSize = atHeld + heldBytes
+stateSize = atDrop + 1
 
 -- WHAT IS WAITED FOR: "0 nothing; one operand for 1 DDRB, .. 14 the byte after 1D; 15 packet bytes, 16 packet bytes and then an
 -- exchange, 17 timing bytes"
@@ -97,11 +100,12 @@ pageBytes p =
 abbrev pub sharedBytes : Shared → List ℕ
 sharedBytes h = h .eprom ++ (h .cycles ∷ h .version ∷ []) ++ h .serial
 
-abbrev pub waitBytes : Wait → List ℕ → List ℕ
-waitBytes w held = (waitCode w ∷ waitLeft w ∷ []) ++ held
+-- the wait, what is held for it, and "1 if the next byte is dropped"
+abbrev pub waitBytes : Wait → List ℕ → Bool → List ℕ
+waitBytes w held pending = (waitCode w ∷ waitLeft w ∷ []) ++ held ++ (cond pending 1 0 ∷ [])
 
 unfoldable pub stateBytes : State → List ℕ
-stateBytes s = pageBytes (s .page) ++ sharedBytes (s .shared) ++ waitBytes (s .wait) (s .held)
+stateBytes s = pageBytes (s .page) ++ sharedBytes (s .shared) ++ waitBytes (s .wait) (s .held) (s .drop)
 
 -- THE STATE of bytes
 abbrev pub piece : List ℕ → ℕ → ℕ → List ℕ
@@ -138,12 +142,12 @@ abbrev pub waitOf : ℕ → ℕ → Wait
 waitOf code left = lookup Nothing code (waitTable left)
 
 unfoldable pub stateIn : List ℕ → State
-stateIn b = record { page = pageIn b; shared = sharedIn b; wait = waitOf (getD b atWait 0) (getD b atLeft 0); held = piece b atHeld heldBytes }
+stateIn b = record { page = pageIn b; shared = sharedIn b; wait = waitOf (getD b atWait 0) (getD b atLeft 0); held = piece b atHeld heldBytes; drop = eqb (getD b atDrop 0) 1 }
 
--- "Another length, a byte at 9 that is not 0 or 1, a byte at 44 over 17, or one at 45 that is not 0 with a wait of 0 to 14, is no
+-- "Another length, a byte at 9 or 55 that is not 0 or 1, a byte at 44 over 17, or one at 45 that is not 0 with a wait of 0 to 14, is no
 -- state"
 unfoldable pub isState : List ℕ → Bool
-isState b = eqb (length b) stateSize && (leb (getD b atConfigured 0) 1 && leb (getD b atWait 0) 17 && (leb 15 (getD b atWait 0) || eqb (getD b atLeft 0) 0))
+isState b = eqb (length b) stateSize && (leb (getD b atConfigured 0) 1 && leb (getD b atDrop 0) 1 && leb (getD b atWait 0) 17 && (leb 15 (getD b atWait 0) || eqb (getD b atLeft 0) 0))
 
 -- THEOREM (proofs/Back.antt, `state-back`): the bytes of a state whose arrays have their sizes are a state's, this one's
 pub record AllSized (s : State) : Type 0 where

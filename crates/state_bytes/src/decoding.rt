@@ -171,7 +171,8 @@ pub fn is_state(bytes: &[u8]) -> bool
     let configured = bytes[AT_CONFIGURED];
     let code = bytes[AT_WAIT];
     let left = bytes[AT_LEFT];
-    (configured <= 1) & (code <= 17) & ((15 <= code) | (left == 0)) & (bytes[AT_DROP] <= 1)
+    let drop = bytes[AT_DROP];
+    (configured <= 1) & (drop <= 1) & (code <= 17) & ((15 <= code) | (left == 0))
 }
 
 // The state of bytes. The caller shows that they are as many as a state's.

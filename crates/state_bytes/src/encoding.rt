@@ -139,15 +139,23 @@ fn put_shared(out: &mut [u8], at: usize, h: Shared) -> usize
     wire::put_bytes(out, b, &serial)
 }
 
-// The wait and what is held for it, at their place.
-fn put_wait(out: &mut [u8], at: usize, w: Wait, held: [u8; registers::HELD]) -> usize
+// The wait, what is held for it, and the drop, at their place.
+fn put_wait(
+    out: &mut [u8],
+    at: usize,
+    w: Wait,
+    held: [u8; registers::HELD],
+    pending: bool,
+) -> usize
     requires { ⌜ (at ≡ atWait) × (stateSize ≤ length (now out)) ⌝ }
-    ensures { λ n. ⌜ WaitPut w held at (now (out .entry)) (now (out .exit)) n ⌝ }
+    ensures { λ n. ⌜ WaitPut w held pending at (now (out .entry)) (now (out .exit)) n ⌝ }
 {
     let code = wait_code(w);
     let left = wait_left(w);
+    let drop = mark(pending);
     let a = wire::put_bytes(out, at, &[code, left]);
-    put_held(out, a, held)
+    let b = put_held(out, a, held);
+    wire::put_bytes(out, b, &[drop])
 }
 
 // Writes a state's bytes at the front of a buffer in which the caller shows room for them.
@@ -161,9 +169,7 @@ fn put_state(out: &mut [u8], s: State) -> usize
     let b = put_shared(out, a, shared);
     let wait = s.wait;
     let held = s.held;
-    let c = put_wait(out, b, wait, held);
-    let drop = mark(s.drop);
-    wire::put_bytes(out, c, &[drop])
+    put_wait(out, b, wait, held, s.drop)
 }
 
 // The state goes to lent bytes. The caller shows that they are as many as a state's.

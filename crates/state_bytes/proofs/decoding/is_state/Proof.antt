@@ -1,4 +1,4 @@
--- Another length is no state's; else the three tests.
+-- Another length is no state's; else the four tests.
 use borrow.Author.Needs.{needs}
 use borrow.Author.Tests.{eq-eqb, ne-eqb}
 use Rattle.state_bytes.specs.StateBytes.{isState}
@@ -14,4 +14,5 @@ is-state-spec =
     (λ c. search needs)
     (λ c. search needs)
     (λ c. search needs)
-    (λ c. rw (eq-eqb _ _ (c .before .before .before .if1 .left))))
+    (λ c. search needs)
+    (λ c. rw (eq-eqb _ _ (c .before .before .before .before .if1 .left))))

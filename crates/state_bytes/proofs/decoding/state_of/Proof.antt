@@ -15,4 +15,7 @@ state-of-spec =
     (λ c. search needs)
     (λ c κs. search needs)
     (λ c κs. search needs)
-    (λ c. rw (c .held-at .ensures, c .before .wait-of .ensures, c .before .before .before .before .shared .ensures, c .before .before .before .before .before .page .ensures)))
+    (λ c. search needs)
+    (λ c.
+    let w = c .before .before in
+    rw (c .before .held-at .ensures, w .wait-of .ensures, w .before .before .before .shared .ensures, w .before .before .before .before .page .ensures)))
