@@ -34,7 +34,7 @@ fault-keeps b f l = let k = go (answerOf b (e.Fault f) l) (went b (e.Fault f) l)
     go g (was-accepted n) = (refl, refl)
 
 -- A FAULT TAKEN: its code in ERROR, and a drop if nothing was waited for
-fault-effect : (s : State) (f : Fault) (ss : List ℕ) (m : ℕ) → (effectOf s (e.Fault f) ss m) .state ≡ withDrop (butError s (faultCode f)) (isIdle (s .wait))
+pub fault-effect : (s : State) (f : Fault) (ss : List ℕ) (m : ℕ) → (effectOf s (e.Fault f) ss m) .state ≡ withDrop (butError s (faultCode f)) (isIdle (s .wait))
 unfolding effectOf effectFrom waveOf errorAfter
 fault-effect s f ss m = refl
 
@@ -68,7 +68,7 @@ faults-taken b c (d ∷ ds) i z =
     faults-taken (afterFault b c) d ds (ap (λ (s : State). s .wait) q ∙ i) (z .1) ∙ ap (λ (s : State). withDrop (butError s (lastCode d ds)) true) q
 
 -- A BYTE DROPPED
-drop-effect : (s : State) (x : ℕ) (ss : List ℕ) (m : ℕ) → s .drop ≡ true → effectOf s (e.Byte x) ss m ≡ record { state = withDrop s false; said = []; actions = []; used = 0 }
+pub drop-effect : (s : State) (x : ℕ) (ss : List ℕ) (m : ℕ) → s .drop ≡ true → effectOf s (e.Byte x) ss m ≡ record { state = withDrop s false; said = []; actions = []; used = 0 }
 unfolding effectOf effectFrom waveOf errorAfter
 drop-effect s x ss m u = ap (λ (p : Bool). carriedOut (withDrop s false) (cond p (sends Silent) (byteDecision s (s .wait) x)) ss m) u
 

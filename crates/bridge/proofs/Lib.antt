@@ -14,4 +14,5 @@ pub mod Measures
 pub mod Answers
 pub mod Judges
 pub mod Faults
+pub mod Streams
 pub mod Edges

@@ -1,7 +1,8 @@
 pub mod Answering
 pub mod Views
 pub mod Judging
-pub mod Faults
 pub mod Demands
+pub mod Faults
+pub mod Streams
 pub mod Edges
 pub mod Measuring

@@ -1,10 +1,11 @@
--- THEOREM: where a list of calls leads a machine that follows the scanner. Assumes nothing.
+-- THEOREMS: where a list of calls leads a machine that follows the scanner, and a stream of bytes one by one. Assumes nothing.
 use Prim.Native.Nat.{ℕ}
 use mathlib.Core.Path.{_≡_, refl, sym, _∙_, ap}
-use mathlib.Core.List.{List}
+use mathlib.Core.Bool.{Bool, true, false, cond}
+use mathlib.Core.List.{List, [], _∷_}
 use Rattle.grammar.specs.Scanner.{Scanner, Scanned, Accepted, Rejected, scan}
 use Rattle.grammar.specs.Machines.{Machine, Call, notRefused, final, bytes}
-use Rattle.grammar.specs.Following.{scannerAfter, followed, Leads}
+use Rattle.grammar.specs.Following.{Stream, scannerAfter, followed, ByteByByte, Leads}
 use Rattle.grammar.proofs.Follows.{Agree, Follows, along}
 use Rattle.grammar.proofs.Demand3.{seen-between}
 
@@ -21,3 +22,13 @@ module _ (M : Machine) (view : M .State → Scanner) (F : Follows M view) where
   pub leads : (s : M .State) → M .Good s → M .Idle s → (ks : List (Call M)) → Leads M s ks
   leads s g i ks =
       sym (F .viewed (final M s ks)) ∙ ap (λ (x : Scanner). x .context) (led s g ks ∙ ap (λ (x : Scanner). followed x (bytes M (notRefused M s ks))) (seen-between M view F s i))
+
+-- WITH LINE FAULTS
+pub byte-by-byte : (s : Stream) (b : ℕ) (bs : List ℕ) → ByteByByte s b bs
+unfolding followed
+byte-by-byte s b [] = refl
+byte-by-byte s b (c ∷ cs) = ap (λ (g : Scanner). record { scanner = g; drop = false }) (go (s .drop))
+  where
+    go : (pending : Bool) → followed (s .scanner) (cond pending (c ∷ cs) (b ∷ c ∷ cs)) ≡ followed (followed (s .scanner) (cond pending [] (b ∷ []))) (c ∷ cs)
+    go true = refl
+    go false = refl

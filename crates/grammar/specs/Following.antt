@@ -40,6 +40,10 @@ abbrev pub afterBytes : Stream → List ℕ → Stream
 afterBytes s [] = s
 afterBytes s (b ∷ bs) = record { scanner = followed (s .scanner) (cond (s .drop) bs (b ∷ bs)); drop = false }
 
+-- THEOREM (proofs/Leads.antt, `byte-by-byte`): bytes handed over together lead where they lead one by one
+abbrev pub ByteByByte : Stream → ℕ → List ℕ → Type 0
+ByteByByte s b bs = afterBytes s (b ∷ bs) ≡ afterBytes (afterBytes s (b ∷ [])) bs
+
 -- the operands of what a byte opens: of 1D its extended byte, of a command those of its row
 abbrev pub operandsOf : Opening → Context → ℕ
 operandsOf Unknown c = 0

@@ -103,8 +103,8 @@ range-test s =
     let w = waitFits (s .wait) (s .page .flags) (s .page .configured) (bitsIn (s .page)) in
     let d = dropFits (s .drop) (s .wait) in (
       λ e.
-      let e1 = both-left (p && w) d e in
-      record { page = facts (s .page) (both-left p w e1); wait = wait-facts (s .wait) _ _ _ (both-right p w e1); no-drop-beside-a-wait = drop-test (s .drop) (s .wait) .0 (both-right (p && w) d e) },
+          let e1 = both-left (p && w) d e in
+          record { page = facts (s .page) (both-left p w e1); wait = wait-facts (s .wait) _ _ _ (both-right p w e1); no-drop-beside-a-wait = drop-test (s .drop) (s .wait) .0 (both-right (p && w) d e) },
       λ r. both (both (tested (s .page) (r .page)) (wait-tested (s .wait) _ _ _ (r .wait))) (drop-test (s .drop) (s .wait) .1 (r .no-drop-beside-a-wait)),
     )
 

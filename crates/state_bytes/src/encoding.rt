@@ -140,13 +140,7 @@ fn put_shared(out: &mut [u8], at: usize, h: Shared) -> usize
 }
 
 // The wait, what is held for it, and the drop, at their place.
-fn put_wait(
-    out: &mut [u8],
-    at: usize,
-    w: Wait,
-    held: [u8; registers::HELD],
-    pending: bool,
-) -> usize
+fn put_wait(out: &mut [u8], at: usize, w: Wait, held: [u8; registers::HELD], pending: bool) -> usize
     requires { ⌜ (at ≡ atWait) × (stateSize ≤ length (now out)) ⌝ }
     ensures { λ n. ⌜ WaitPut w held pending at (now (out .entry)) (now (out .exit)) n ⌝ }
 {

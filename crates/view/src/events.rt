@@ -3,7 +3,6 @@ use effects::Returned;
 use registers::Event;
 use registers::Fault;
 use registers::State;
-use registers::Wait;
 use registers::parts::reports_on;
 use wording::items::say_byte;
 use wording::items::say_wait;
@@ -26,10 +25,9 @@ fn say_fault(f: Fault) {
 }
 
 fn say_received(s: State, byte: u8) {
-    let w = s.wait;
     say_hex(byte);
     say(b" ");
-    say_byte(w, byte, s.page.flags);
+    say_byte(s, byte);
 }
 
 fn say_event(s: State, e: Event) {
@@ -64,10 +62,11 @@ fn codes_sent(returned: Returned, reports: bool) -> usize {
     }
 }
 
-// Whether an event is 04, which sends ERROR.
-fn sends_error(w: Wait, e: Event) -> bool {
+// Whether an event is 04, which sends ERROR, and is not dropped.
+fn sends_error(s: State, e: Event) -> bool {
+    let w = s.wait;
     match e {
-        Event::Byte(byte) => (byte == READ_ERROR) & bridge::is_idle(w),
+        Event::Byte(byte) => (byte == READ_ERROR) & registers::is_idle(w) & !s.drop,
         Event::Fault(_) => false,
     }
 }
@@ -75,8 +74,7 @@ fn sends_error(w: Wait, e: Event) -> bool {
 // How many of the replies to an event, from the first on, are codes, by the states before and after it and the codes that it returned.
 // ERROR, which 04 sends, is a code.
 pub(crate) fn codes_of(s: State, e: Event, after: State, returned: Returned) -> usize {
-    let w = s.wait;
-    if sends_error(w, e) {
+    if sends_error(s, e) {
         return 1;
     }
     codes_sent(returned, reports_on(after.page.flags))
@@ -84,9 +82,8 @@ pub(crate) fn codes_of(s: State, e: Event, after: State, returned: Returned) -> 
 
 // The last lines of a block, by the state that the event leaves.
 pub(crate) fn say_left(color: bool, s: State) {
-    let w = s.wait;
     say_error(color, s.page.error);
     say(b"\n    ");
-    say_wait(w);
+    say_wait(s);
     say(b"\n");
 }

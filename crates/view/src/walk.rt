@@ -21,7 +21,7 @@ use records::contents::event_of;
 use refusals::Refusal;
 use refusals::number;
 use registers::Event;
-use registers::Wait;
+use registers::State;
 use session::next::Next;
 use session::next::next_at;
 use session::replay::Cursor;
@@ -71,9 +71,9 @@ fn say_shown(t: Shown) {
     say(b"; ");
 }
 
-fn say_end(t: Shown, w: Wait) {
+fn say_end(t: Shown, s: State) {
     say_shown(t);
-    say_wait(w);
+    say_wait(s);
     finish();
 }
 
@@ -145,7 +145,6 @@ fn show_step(
     }
     let made = next_at(session, c.at, c.end);
     let s = c.bridge.state;
-    let w = s.wait;
     match made {
         Next::Event {
             fault,
@@ -158,7 +157,7 @@ fn show_step(
         Next::Empty { start: _, end: _ } => t,
         Next::Samples { start: _, end: _ } => t,
         Next::End => {
-            say_end(t, w);
+            say_end(t, s);
             t
         }
         Next::Refused { why: _, place: _ } => t,

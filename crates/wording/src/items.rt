@@ -7,6 +7,7 @@ use commands::decoding::command_of;
 use names::ROWS;
 use registers::Operand;
 use registers::PortRegister;
+use registers::State;
 use registers::Wait;
 
 fn say_name(row: usize) {
@@ -57,12 +58,17 @@ fn say_command(extended: bool, byte: u8, flags: u8) {
     }
 }
 
-// What a byte is to a bridge that waits for this.
-pub fn say_byte(w: Wait, byte: u8, flags: u8) {
+// What a byte is to a bridge in a state.
+pub fn say_byte(s: State, byte: u8) {
+    if s.drop {
+        say(b"dropped");
+        return;
+    }
+    let w = s.wait;
     match w {
-        Wait::Nothing => say_command(false, byte, flags),
+        Wait::Nothing => say_command(false, byte, s.page.flags),
         Wait::One(o) => say_operand(o),
-        Wait::Extended => say_command(true, byte, flags),
+        Wait::Extended => say_command(true, byte, s.page.flags),
         Wait::Packet {
             left: _,
             exchange: _,
@@ -79,8 +85,13 @@ fn say_packet(left: u8, exchange: bool) {
     }
 }
 
-// What is waited for, `idle` if nothing.
-pub fn say_wait(w: Wait) {
+// What is waited for, `idle` if nothing; or that the next byte is dropped.
+pub fn say_wait(s: State) {
+    if s.drop {
+        say(b"drops the next byte");
+        return;
+    }
+    let w = s.wait;
     match w {
         Wait::Nothing => say(b"idle"),
         Wait::One(o) => {

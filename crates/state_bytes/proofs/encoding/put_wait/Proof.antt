@@ -24,6 +24,6 @@ put-wait-spec =
     let s = m .before .before .before .before in
     record {
       wrote = rw (← m .mark .ensures, ← m .before .wait-left .ensures, ← m .before .before .wait-code .ensures)
-      (written-append _ _ _ _ (written-append _ _ _ _ (b .put-bytes .ensures) (h .put-held .ensures)) (c .before .before .put-bytes2 .ensures));
+          (written-append _ _ _ _ (written-append _ _ _ _ (b .put-bytes .ensures) (h .put-held .ensures)) (c .before .before .put-bytes2 .ensures));
       sized = s .good .1 .1 .1 .0 .1 .0 .1;
     }))
