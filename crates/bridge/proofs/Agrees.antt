@@ -16,8 +16,7 @@ use Rattle.registers.specs.declared.Event.the-variants as e
 use Rattle.registers.proofs.InRange.{packet-left, timings-left}
 use Rattle.decisions.specs.Said.{codesOf}
 use Rattle.commands.specs.Commands.{commandOf}
-use Rattle.decisions.specs.Decisions.{sends}
-use Rattle.decisions.specs.declared.Answer.the-variants.{Silent}
+use Rattle.decisions.specs.Decisions.{dropped}
 use Rattle.decisions.specs.declared.Decision.{Decision}
 use Rattle.decisions.specs.Effects.{carriedOut}
 use Rattle.decisions.specs.Events.{commandDecision, byteDecision, effectOf}
@@ -59,4 +58,4 @@ byte-agrees s b ss m h n u =
     let a : Agree (scan (viewOf s) b) (codesOf ((carriedOut t d ss m) .said)) (viewOf s) (viewOf ((carriedOut t d ss m) .state)) =
     carried-agrees t (scan (viewOf s) b) d ss m (decision-agrees (s .page) (s .shared) (s .held) b h (s .wait) (subst InRange (sym (drop-same s u)) n)) in
     subst (λ (x : Decision). Agree (scan (viewOf s) b) (codesOf ((carriedOut t x ss m) .said)) (viewOf s) (viewOf ((carriedOut t x ss m) .state)))
-    (ap (λ (r : State). byteDecision r (s .wait) b) (drop-same s u) ∙ ap (λ (p : Bool). cond p (sends Silent) (byteDecision s (s .wait) b)) (sym u)) a
+    (ap (λ (r : State). byteDecision r (s .wait) b) (drop-same s u) ∙ ap (λ (p : Bool). cond p dropped (byteDecision s (s .wait) b)) (sym u)) a

@@ -13,8 +13,7 @@ use Rattle.registers.specs.declared.Event.the-variants as e
 use Rattle.registers.proofs.InRange.{idle-is}
 use Rattle.signals.specs.Waveforms.{waveOf}
 use Rattle.decisions.specs.Said.{errorAfter, repliesOf, codesOf}
-use Rattle.decisions.specs.Decisions.{sends}
-use Rattle.decisions.specs.declared.Answer.the-variants.{Silent}
+use Rattle.decisions.specs.Decisions.{dropped}
 use Rattle.decisions.specs.Effects.{Effect, effectFrom, carriedOut}
 use Rattle.decisions.specs.Events.{byteDecision, effectOf}
 use Rattle.decisions.proofs.Changes.{drop-same}
@@ -70,7 +69,7 @@ faults-taken b c (d ∷ ds) i z =
 -- A BYTE DROPPED
 pub drop-effect : (s : State) (x : ℕ) (ss : List ℕ) (m : ℕ) → s .drop ≡ true → effectOf s (e.Byte x) ss m ≡ record { state = withDrop s false; said = []; actions = []; used = 0 }
 unfolding effectOf effectFrom waveOf errorAfter
-drop-effect s x ss m u = ap (λ (p : Bool). carriedOut (withDrop s false) (cond p (sends Silent) (byteDecision s (s .wait) x)) ss m) u
+drop-effect s x ss m u = ap (λ (p : Bool). carriedOut (withDrop s false) (cond p dropped (byteDecision s (s .wait) x)) ss m) u
 
 drop-given : (s : State) (l : Lent) → accepted (record { state = s; said = []; actions = []; used = 0 }) l ≡ given (acceptance s [] 0 0 0) (l .actions) (l .replies)
 unfolding codesOf repliesOf overwrite

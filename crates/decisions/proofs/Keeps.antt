@@ -22,7 +22,7 @@ use Rattle.registers.proofs.InRange.{idle-is, wait-as}
 use Rattle.commands.specs.Commands.{commandOf}
 use Rattle.commands.specs.declared.Command.{Command}
 use Rattle.registers.specs.declared.Bit.the-variants.{Three, Four}
-use Rattle.decisions.specs.Decisions.{Decision, Silent, sends}
+use Rattle.decisions.specs.Decisions.{Decision, dropped}
 use Rattle.commands.specs.Legality.{spiNeedsConfiguration, legalityOf}
 use Rattle.commands.specs.declared.Legality.{Legality}
 use Rattle.commands.specs.declared.Legality.the-variants.{Legal, Rejected}
@@ -173,7 +173,7 @@ module _ (s : State) (n : InRange s) where
   pub decision-keeps : (a : Event) → InRange (changed (dropMarked s a) (decisionOf s a .change))
   decision-keeps (e.Byte b) = go (s .drop) refl
     where
-      go : (t : Bool) → s .drop ≡ t → InRange (changed (withDrop s false) (cond t (sends Silent) (byteDecision s (s .wait) b) .change))
+      go : (t : Bool) → s .drop ≡ t → InRange (changed (withDrop s false) (cond t dropped (byteDecision s (s .wait) b) .change))
       go true u = record { page = n .page; wait = n .wait; no-drop-beside-a-wait = λ p. absurd (false≢true p) }
       go false u = let d = byteDecision s (s .wait) b in subst (λ (t : State). InRange (changed t (d .change))) (sym (drop-same s u)) (change-keeps s (d .change) n u (byte-fits (s .wait) b refl))
   decision-keeps (e.Fault f) = record { page = n .page; wait = n .wait; no-drop-beside-a-wait = idle-is (s .wait) }

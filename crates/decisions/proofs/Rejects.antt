@@ -12,7 +12,7 @@ use Rattle.registers.specs.declared.Event.{Event}
 use Rattle.registers.specs.declared.Event.the-variants as e
 use Rattle.signals.specs.Waveforms.{waveOf}
 use Rattle.decisions.specs.Said.{errorAfter, codesOf, isRejected}
-use Rattle.decisions.specs.Decisions.{Decision, Silent, ReturnsAndSends, returns, sends}
+use Rattle.decisions.specs.Decisions.{Decision, ReturnsAndSends, returns, sends, dropped}
 use Rattle.decisions.specs.Effects.{effectFrom, carriedOut}
 use Rattle.decisions.specs.Events.{byteDecision, effectOf}
 use Rattle.decisions.specs.Promises.{OnlyError, Rejects}
@@ -44,7 +44,7 @@ module _ (s : State) (ss : List ℕ) (m : ℕ) where
 
 -- a byte that is dropped is not rejected
 byte-only : (s : State) (b : ℕ) (ss : List ℕ) (m : ℕ) (pending : Bool) → s .drop ≡ pending →
-    let x = carriedOut (withDrop s false) (cond pending (sends Silent) (byteDecision s (s .wait) b)) ss m in
+    let x = carriedOut (withDrop s false) (cond pending dropped (byteDecision s (s .wait) b)) ss m in
     isRejected (x .said) ≡ true → OnlyError s x
 unfolding effectFrom codesOf
 byte-only s b ss m true u h = absurd (false≢true h)

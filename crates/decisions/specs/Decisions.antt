@@ -22,6 +22,10 @@ returns code = decision c.Nothing w.Still (Returns code)
 abbrev pub sends : Answer → Decision
 sends answer = decision c.Nothing w.Still answer
 
+-- a byte dropped: it "ends the drop and does nothing else" (02, Ask 2)
+abbrev pub dropped : Decision
+dropped = sends Silent
+
 -- a waveform, and 00 returned
 abbrev pub performs : Waveform → Decision
 performs wave = decision c.Nothing wave (Returns 0x00)

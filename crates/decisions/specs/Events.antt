@@ -10,7 +10,7 @@ use Rattle.registers.specs.declared.Wait.{Wait}
 use Rattle.registers.specs.declared.Wait.the-variants as v
 use Rattle.registers.specs.declared.Event.{Event}
 use Rattle.registers.specs.declared.Event.the-variants as e
-use Rattle.decisions.specs.Decisions.{Decision, Silent, returns, sends}
+use Rattle.decisions.specs.Decisions.{Decision, Silent, returns, sends, dropped}
 use Rattle.commands.specs.Commands.{commandOf}
 use Rattle.commands.specs.declared.Command.{Command}
 use Rattle.commands.specs.Legality.{legalityOf}
@@ -59,14 +59,13 @@ byteDecision s v.Extended x = commandDecision s (commandOf true x)
 byteDecision s (v.Packet left exchange) x = packetClause (bitsIn (s .page)) left exchange x
 byteDecision s (v.Timings left) x = timingsClause left x
 
--- AN EVENT; "A fault returns its code; the byte it came with is lost, any wait stays." Where a drop is pending, "the byte ends the drop and
--- does nothing else" (02, Ask 2).
+-- AN EVENT; "A fault returns its code; the byte it came with is lost, any wait stays." A byte is dropped where a drop is pending.
 abbrev pub decisionOf : State → Event → Decision
-decisionOf s (e.Byte x) = cond (s .drop) (sends Silent) (byteDecision s (s .wait) x)
+decisionOf s (e.Byte x) = cond (s .drop) dropped (byteDecision s (s .wait) x)
 decisionOf s (e.Fault f) = returns (faultCode f)
 
--- WHETHER A DROP IS PENDING AFTER IT: "Between commands .. a fault also makes the bridge drop the next good byte without a code. .. Inside an
--- item the rule of 01 stays"
+-- WHETHER A DROP IS PENDING AFTER IT (02, Ask 2): "Between commands .. a fault also makes the bridge drop the next good byte without a code. .. Inside an
+-- item the rule of 01 stays"; a byte ends the drop
 abbrev pub dropAfter : Wait → Event → Bool
 dropAfter w (e.Byte x) = false
 dropAfter w (e.Fault f) = isIdle w

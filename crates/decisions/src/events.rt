@@ -5,13 +5,14 @@ ghost use Prim.Native.Nat.{_<_};
 ghost use Rattle.packet.specs.Packet.{width};
 ghost use Rattle.registers.specs.Ranges.{InRange};
 ghost use Rattle.commands.specs.Commands.{commandOf};
-ghost use Rattle.decisions.specs.Decisions.{sends};
+ghost use Rattle.decisions.specs.Decisions.{dropped};
 ghost use Rattle.decisions.specs.Events.{clauseOf, commandDecision, waitsExtended, byteDecision};
 use crate::Answer;
 use crate::Decision;
 use crate::common;
 use crate::extended;
 use crate::i2c;
+use crate::kinds::dropping;
 use crate::kinds::returning;
 use crate::kinds::sending;
 use crate::one_wire;
@@ -78,10 +79,10 @@ fn waits_extended(w: Wait) -> bool
 // A byte, dropped or by what is waited for. The caller shows that the state breaks no range.
 pub(crate) fn byte(s: State, x: u8) -> Decision
     requires { ⌜ InRange s ⌝ }
-    ensures { λ p. ⌜ p ≡ cond (s .drop) (sends Answer.Silent) (byteDecision s (s .wait) x) ⌝ }
+    ensures { λ p. ⌜ p ≡ cond (s .drop) dropped (byteDecision s (s .wait) x) ⌝ }
 {
     if s.drop {
-        return sending(Answer::Silent);
+        return dropping();
     }
     let w = s.wait;
     match w {

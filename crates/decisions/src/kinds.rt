@@ -1,6 +1,6 @@
 // The decisions that the clauses are made of, each as a call, since an arm of a match is proved by its callee's contract.
 ghost use mathlib.Core.Path.{_≡_};
-ghost use Rattle.decisions.specs.Decisions.{decision, returns, sends, performs, awaits, ends, stores};
+ghost use Rattle.decisions.specs.Decisions.{decision, returns, sends, dropped, performs, awaits, ends, stores};
 use crate::Answer;
 use crate::Change;
 use crate::Decision;
@@ -31,6 +31,13 @@ pub(crate) fn sending(answer: Answer) -> Decision
     ensures { λ r. ⌜ r ≡ sends answer ⌝ }
 {
     deciding(Change::Nothing, Waveform::Still, answer)
+}
+
+// A byte dropped.
+pub(crate) fn dropping() -> Decision
+    ensures { λ r. ⌜ r ≡ dropped ⌝ }
+{
+    deciding(Change::Nothing, Waveform::Still, Answer::Silent)
 }
 
 // A waveform, and 00 returned.

@@ -14,7 +14,7 @@ use Rattle.registers.specs.declared.Wait.the-variants as v
 use Rattle.registers.proofs.Wait as wait-enum
 use Rattle.registers.proofs.InRange.{packet-left, timings-left}
 use Rattle.commands.specs.Commands.{commandOf}
-use Rattle.decisions.specs.Decisions.{Decision, Silent, sends}
+use Rattle.decisions.specs.Decisions.{Decision, dropped}
 use Rattle.decisions.specs.Events.{commandDecision, waitsExtended, byteDecision}
 use Rattle.decisions.proofs.events.byte.Statement.{statement}
 use Rattle.decisions.proofs.events.byte.Tie as tie
@@ -31,15 +31,15 @@ by-command s (v.Packet left exchange) x h = ⊎-elim (λ q. absurd (omega arith)
 by-command s (v.Timings left) x h = ⊎-elim (λ q. absurd (omega arith)) (λ q. absurd (omega arith)) h
 
 -- what is not dropped
-undropped : (s : State) (d : Decision) (x : ℕ) → s .drop ≡ false → d ≡ byteDecision s (s .wait) x → d ≡ cond (s .drop) (sends Silent) (byteDecision s (s .wait) x)
-undropped s d x u e = e ∙ ap (λ (pending : Bool). cond pending (sends Silent) (byteDecision s (s .wait) x)) (sym u)
+undropped : (s : State) (d : Decision) (x : ℕ) → s .drop ≡ false → d ≡ byteDecision s (s .wait) x → d ≡ cond (s .drop) dropped (byteDecision s (s .wait) x)
+undropped s d x u e = e ∙ ap (λ (pending : Bool). cond pending dropped (byteDecision s (s .wait) x)) (sym u)
 
 pub byte-spec : {M : Type 1} → statement M
 byte-spec =
     tie.close
     (tie.spec
     (λ c κs. search needs)
-    (λ c. rw (c .before .if1 .taken) (c .sending .ensures))
+    (λ c. rw (c .before .if1 .taken) (c .dropping .ensures))
     (λ c κs. search needs)
     (λ c κs. search needs)
     (λ c. search needs)
