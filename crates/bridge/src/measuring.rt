@@ -32,8 +32,7 @@ pub fn measure(s: State, event: Event, samples: &[u8], sampled: usize) -> Measur
 {
     let d = decisions::decision_of(s, event);
     let change = d.change;
-    let w = s.wait;
-    let pending = decisions::drop_after(w, event);
+    let pending = decisions::drop_after(s, event);
     let mut changed = changes::apply(s, change);
     changed.drop = pending;
     let page = changed.page;

@@ -78,9 +78,10 @@ pub fn decision_of(s: State, e: Event) -> Decision
 }
 
 // Whether a drop is pending after an event: a line fault between commands leaves one, and a byte ends it.
-pub fn drop_after(w: Wait, e: Event) -> bool
-    ensures { λ r. ⌜ r ≡ dropAfter w e ⌝ }
+pub fn drop_after(s: State, e: Event) -> bool
+    ensures { λ r. ⌜ r ≡ dropAfter (s .wait) e ⌝ }
 {
+    let w = s.wait;
     match e {
         Event::Byte(_) => false,
         Event::Fault(_) => registers::is_idle(w),

@@ -2,7 +2,7 @@
 use borrow.Author.Needs.{needs}
 use Prim.Native.Nat.{ℕ}
 use mathlib.Core.Path.{_≡_, refl, sym, ap, _∙_}
-use mathlib.Core.Bool.{Bool, false, cond}
+use mathlib.Core.Bool.{Bool, cond}
 use mathlib.Core.List.{[], _∷_}
 use mathlib.Core.Logic.{⊎-elim}
 use native.Mathlib.Omega.{arith}
@@ -30,16 +30,16 @@ by-command s v.Extended x h = refl
 by-command s (v.Packet left exchange) x h = ⊎-elim (λ q. absurd (omega arith)) (λ q. absurd (omega arith)) h
 by-command s (v.Timings left) x h = ⊎-elim (λ q. absurd (omega arith)) (λ q. absurd (omega arith)) h
 
--- what is not dropped
-undropped : (s : State) (d : Decision) (x : ℕ) → s .drop ≡ false → d ≡ byteDecision s (s .wait) x → d ≡ cond (s .drop) dropped (byteDecision s (s .wait) x)
-undropped s d x u e = e ∙ ap (λ (pending : Bool). cond pending dropped (byteDecision s (s .wait) x)) (sym u)
+-- where a drop is known to be pending or not
+by-drop : (s : State) (d : Decision) (x : ℕ) {pending : Bool} → s .drop ≡ pending → d ≡ cond pending dropped (byteDecision s (s .wait) x) → d ≡ cond (s .drop) dropped (byteDecision s (s .wait) x)
+by-drop s d x u e = e ∙ ap (λ (pending : Bool). cond pending dropped (byteDecision s (s .wait) x)) (sym u)
 
 pub byte-spec : {M : Type 1} → statement M
 byte-spec =
     tie.close
     (tie.spec
     (λ c κs. search needs)
-    (λ c. rw (c .before .if1 .taken) (c .dropping .ensures))
+    (λ c. let a = c .before .before .args in by-drop (a .s) _ (a .x) (c .before .if1 .taken) (c .dropping .ensures))
     (λ c κs. search needs)
     (λ c κs. search needs)
     (λ c. search needs)
@@ -51,16 +51,16 @@ byte-spec =
     (λ c.
     let i = c .before .before .before in
     let a = i .before .args in
-    undropped (a .s) _ (a .x) (i .if1 .left) (c .command .ensures ∙ ap (λ (e : Bool). commandDecision (a .s) (commandOf e (a .x))) (c .before .waits-extended .ensures) ∙ by-command (a .s) (a .s .wait) (a .x) (c .before .before .match .keys1)))
+    by-drop (a .s) _ (a .x) (i .if1 .left) (c .command .ensures ∙ ap (λ (e : Bool). commandDecision (a .s) (commandOf e (a .x))) (c .before .waits-extended .ensures) ∙ by-command (a .s) (a .s .wait) (a .x) (c .before .before .match .keys1)))
     (λ c.
     let i = c .before .before .before .before in
     let a = i .before .args in
-    undropped (a .s) _ (a .x) (i .if1 .left) (c .clause .ensures ∙ by-wait (a .s) _ (a .x) (c .before .before .w .given .1)))
+    by-drop (a .s) _ (a .x) (i .if1 .left) (c .clause .ensures ∙ by-wait (a .s) _ (a .x) (c .before .before .w .given .1)))
     (λ c.
     let i = c .before .before .before .before in
     let a = i .before .args in
-    undropped (a .s) _ (a .x) (i .if1 .left) (c .packet-byte .ensures ∙ by-wait (a .s) _ (a .x) (c .before .before .w2 .given .1)))
+    by-drop (a .s) _ (a .x) (i .if1 .left) (c .packet-byte .ensures ∙ by-wait (a .s) _ (a .x) (c .before .before .w2 .given .1)))
     (λ c.
     let i = c .before .before .before .before in
     let a = i .before .args in
-    undropped (a .s) _ (a .x) (i .if1 .left) (c .timing-byte .ensures ∙ by-wait (a .s) _ (a .x) (c .before .before .w3 .given .1))))
+    by-drop (a .s) _ (a .x) (i .if1 .left) (c .timing-byte .ensures ∙ by-wait (a .s) _ (a .x) (c .before .before .w3 .given .1))))
