@@ -26,7 +26,8 @@ judge-spec =
     let w = c .before .before in
     let i = w .before .before in
     let s = i .before .before .before .args .self .state in
-    rw (sym (i .in-range .ensures) ∙ not-false _ (w .before .if1 .left), tested s (w .is-idle .ensures) (not-true _ (c .if2 .taken))))
+    let busy = not-true (w .is-idle .result && not (s .drop)) (c .if2 .taken) in
+    rw (sym (i .in-range .ensures) ∙ not-false _ (w .before .if1 .left), tested s (w .is-idle .ensures) busy))
     (λ c κs.
     let i = c .before .before .before .before in
     range-test (i .before .before .before .args .self .state) .0 (sym (i .in-range .ensures) ∙ not-false _ (c .before .before .before .if1 .left)) .page .size-register)
@@ -35,4 +36,5 @@ judge-spec =
     let w = c .before .before .before .before in
     let i = w .before .before in
     let s = i .before .before .before .args .self .state in
-    rw (sym (i .in-range .ensures) ∙ not-false _ (w .before .if1 .left), tested s (w .is-idle .ensures) (not-false _ (c .before .before .if2 .left)), ← c .before .context .ensures, ← c .judge .ensures)))
+    let free = not-false (w .is-idle .result && not (s .drop)) (c .before .before .if2 .left) in
+    rw (sym (i .in-range .ensures) ∙ not-false _ (w .before .if1 .left), tested s (w .is-idle .ensures) free, ← c .before .context .ensures, ← c .judge .ensures)))
