@@ -1,11 +1,10 @@
 -- What a fault leaves, and what the byte that is dropped leaves; a refused call changes nothing. Assumes nothing.
 use Prim.Native.Nat.{ℕ}
-use mathlib.Core.Path.{_≡_, refl, sym, ap, _∙_}
+use mathlib.Core.Path.{_≡_, refl, ap, _∙_}
 use mathlib.Core.Bool.{Bool, true, false, cond}
 use mathlib.Core.List.{List, [], _∷_}
 use Rattle.wire.specs.Buffer.{overwrite}
 use Rattle.registers.specs.Registers.{withDrop, isIdle, faultCode}
-use Rattle.registers.specs.Ranges.{InRange}
 use Rattle.registers.specs.declared.State.{State}
 use Rattle.registers.specs.declared.Wait.the-variants as v
 use Rattle.registers.specs.declared.Fault.{Fault}

@@ -1,6 +1,6 @@
 -- THEOREM: a stream with line faults leads the bridge where it leads without one. Assumes nothing.
 use Prim.Native.Nat.{ℕ, _<_}
-use mathlib.Core.Path.{_≡_, refl, sym, ap, _∙_}
+use mathlib.Core.Path.{_≡_, refl, ap, _∙_}
 use mathlib.Core.Bool.{Bool, true, false, cond}
 use mathlib.Core.List.{List, [], _∷_}
 use Rattle.registers.specs.Registers.{isIdle}
@@ -18,7 +18,7 @@ use Rattle.grammar.specs.Following.{followed, undisturbed, isBetween}
 use Rattle.grammar.specs.declared.Scanner.{Scanner}
 use Rattle.grammar.specs.declared.following.Stream.{Stream}
 use Rattle.grammar.proofs.Leads.{agreed}
-use Rattle.bridge.specs.Answering.{Bridge, Lent, Given, answerOf}
+use Rattle.bridge.specs.Answering.{Bridge, Given, answerOf}
 use Rattle.bridge.specs.Demands.{isRefused}
 use Rattle.bridge.specs.Streams.{IsEvent, EventCall, afterCalls, streamAfter, streamAlong, StreamFollowed}
 use Rattle.bridge.specs.Views.{contextOf}

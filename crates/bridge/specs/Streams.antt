@@ -1,5 +1,5 @@
 -- A command stream with line faults among its bytes: for whoever writes one and counts its bytes, as a script does.
-use Prim.Native.Nat.{ℕ, _<_}
+use Prim.Native.Nat.{_<_}
 use mathlib.Core.Path.{_≡_}
 use mathlib.Core.Bool.{cond}
 use mathlib.Core.List.{List, [], _∷_}

@@ -5,7 +5,7 @@ use mathlib.Core.Bool.{Bool, true, false, cond}
 use mathlib.Core.List.{List, [], _∷_}
 use Rattle.grammar.specs.Scanner.{Scanner, Scanned, Accepted, Rejected, scan}
 use Rattle.grammar.specs.Machines.{Machine, Call, notRefused, final, bytes}
-use Rattle.grammar.specs.Following.{Stream, scannerAfter, followed, ByteByByte, Leads}
+use Rattle.grammar.specs.Following.{Stream, scannerAfter, followed, undropped, ByteByByte, Leads}
 use Rattle.grammar.proofs.Follows.{Agree, Follows, along}
 use Rattle.grammar.proofs.Demand3.{seen-between}
 
@@ -27,7 +27,7 @@ module _ (M : Machine) (view : M .State → Scanner) (F : Follows M view) where
 pub byte-by-byte : (s : Stream) (b : ℕ) (bs : List ℕ) → ByteByByte s b bs
 unfolding followed
 byte-by-byte s b [] = refl
-byte-by-byte s b (c ∷ cs) = ap (λ (g : Scanner). record { scanner = g; drop = false }) (go (s .drop))
+byte-by-byte s b (c ∷ cs) = ap undropped (go (s .drop))
   where
     go : (pending : Bool) → followed (s .scanner) (cond pending (c ∷ cs) (b ∷ c ∷ cs)) ≡ followed (followed (s .scanner) (cond pending [] (b ∷ []))) (c ∷ cs)
     go true = refl

@@ -23,8 +23,11 @@ abbrev pub Leads : (M : Machine) → M .State → List (Call M) → Type 0
 Leads M s ks = M .context (final M s ks) ≡ followed (between (M .context s)) (bytes M (notRefused M s ks)) .context
 
 -- WITH LINE FAULTS among the bytes (02, Ask 2): the scanner, and whether the next byte is dropped; the type is declared in src/following.rt
+abbrev pub undropped : Scanner → Stream
+undropped g = record { scanner = g; drop = false }
+
 abbrev pub undisturbed : Context → Stream
-undisturbed c = record { scanner = between c; drop = false }
+undisturbed c = undropped (between c)
 
 abbrev pub isBetween : Place → Bool
 isBetween Between = true
@@ -38,7 +41,7 @@ afterFault s = record { scanner = s .scanner; drop = isBetween (s .scanner .plac
 -- "the byte ends the drop and does nothing else"
 abbrev pub afterBytes : Stream → List ℕ → Stream
 afterBytes s [] = s
-afterBytes s (b ∷ bs) = record { scanner = followed (s .scanner) (cond (s .drop) bs (b ∷ bs)); drop = false }
+afterBytes s (b ∷ bs) = undropped (followed (s .scanner) (cond (s .drop) bs (b ∷ bs)))
 
 -- THEOREM (proofs/Leads.antt, `byte-by-byte`): bytes handed over together lead where they lead one by one
 abbrev pub ByteByByte : Stream → ℕ → List ℕ → Type 0

@@ -1,9 +1,8 @@
 // Where the bytes and line faults of a stream lead, and how many operands a command then has.
 ghost use mathlib.Core.Path.{_≡_};
-ghost use mathlib.Core.Bool.{false};
 ghost use Rattle.grammar.specs.Grammar.{factoryContext};
 ghost use Rattle.grammar.specs.Scanner.{scan};
-ghost use Rattle.grammar.specs.Following.{scannerAfter, followed, undisturbed, isBetween, afterFault, afterBytes, operandsIn};
+ghost use Rattle.grammar.specs.Following.{scannerAfter, followed, undropped, undisturbed, isBetween, afterFault, afterBytes, operandsIn};
 use crate::Context;
 use crate::Place;
 use crate::Scanned;
@@ -77,7 +76,7 @@ fn follow(from: Scanner, bytes: &[u8]) -> Scanner
 
 // A stream of which no byte is to be dropped.
 fn undropped(scanner: Scanner) -> Stream
-    ensures { λ r. ⌜ r ≡ record { scanner = scanner; drop = false } ⌝ }
+    ensures { λ r. ⌜ r ≡ undropped scanner ⌝ }
 {
     Stream {
         scanner,

@@ -39,7 +39,7 @@ byte-spec =
     tie.close
     (tie.spec
     (λ c κs. search needs)
-    (λ c. let a = c .before .before .args in by-drop (a .s) _ (a .x) (c .before .if1 .taken) (c .dropping .ensures))
+    (λ c. rw (c .before .if1 .taken) (c .dropping .ensures))
     (λ c κs. search needs)
     (λ c κs. search needs)
     (λ c. search needs)

@@ -2,13 +2,13 @@
 use borrow.Author.Needs.{needs}
 use Prim.Native.Nat.{ℕ, _-_}
 use mathlib.Core.Path.{_≡_, refl, sym, ap, _∙_}
-use mathlib.Core.Bool.{Bool, false, cond}
+use mathlib.Core.Bool.{Bool, cond}
 use mathlib.Core.List.{List, [], _∷_}
 use native.Mathlib.Omega.{arith}
 use lib.ListN.{length, drop, length-drop}
 use lib.Seq.{take-all}
 use Rattle.grammar.specs.Scanner.{Scanner}
-use Rattle.grammar.specs.Following.{Stream, followed, afterBytes}
+use Rattle.grammar.specs.Following.{Stream, followed, undropped, afterBytes}
 use Rattle.grammar.proofs.following.after_bytes.Statement.{statement}
 use Rattle.grammar.proofs.following.after_bytes.Tie as tie
 
@@ -16,9 +16,9 @@ none : (s : Stream) (bs : List ℕ) → length bs ≡ 0 → s ≡ afterBytes s b
 none s [] e = refl
 none s (b ∷ bs) e = absurd (omega (arith, e))
 
-some : (s : Stream) (bs : List ℕ) (g : Scanner) {pending : Bool} → ¬ (length bs ≡ 0) → s .drop ≡ pending → g ≡ followed (s .scanner) (cond pending (drop 1 bs) bs) → record { scanner = g; drop = false } ≡ afterBytes s bs
+some : (s : Stream) (bs : List ℕ) (g : Scanner) {pending : Bool} → ¬ (length bs ≡ 0) → s .drop ≡ pending → g ≡ followed (s .scanner) (cond pending (drop 1 bs) bs) → undropped g ≡ afterBytes s bs
 some s [] g n u e = absurd (n refl)
-some s (b ∷ bs) g n u e = ap (λ (h : Scanner). record { scanner = h; drop = false }) (e ∙ ap (λ (p : Bool). followed (s .scanner) (cond p bs (b ∷ bs))) (sym u))
+some s (b ∷ bs) g n u e = ap undropped (e ∙ ap (λ (p : Bool). followed (s .scanner) (cond p bs (b ∷ bs))) (sym u))
 
 pub after-bytes-spec : {M : Type 1} → statement M
 after-bytes-spec =
