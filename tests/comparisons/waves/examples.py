@@ -16,6 +16,7 @@ WIRE = "onewire_link:owr=DQ"
 # the strips of the picture, and for each row of notes its name, the decoder and the annotations
 EXAMPLES = {
     "eeprom": (3, [("I2C", I2C, "i2c=addr-data")]),
+    "line_fault": (1, [("I2C", I2C, "i2c=addr-data")]),
     "ds18b20": (6, [("Bits", WIRE, "onewire_link=bits"), ("1-Wire", WIRE + ",onewire_network", "onewire_network=text")]),
     "flash": (1, [("Sent", SPI, "spi=mosi-data"), ("Received", SPI, "spi=miso-data")])}
 

@@ -6,7 +6,7 @@ import sys
 sys.path.insert(0, str(pathlib.Path(__file__).resolve().parents[2]))
 from model.common import State                      # noqa: E402
 from model.interfaces import step                   # noqa: E402
-from model.replay import BYTES, SAMPLES, reason     # noqa: E402
+from model.replay import BYTES, FAULT, SAMPLES, reason  # noqa: E402
 
 # ---- the session as commands ----
 
@@ -24,21 +24,27 @@ def records(session):
         yield kind, session[place + 4:place + 4 + length]
         place += 4 + length
 
+def note(found, state, byte):
+    """A byte that the bridge does not drop is a command's first or its next."""
+    if state.due or state.extended:
+        found[-1].operands.append(byte)
+    elif not state.drops:
+        found.append(Command(byte))
+
 def commands(session):
     state, samples, found = State(), b"", []
     for kind, body in records(session):
-        assert kind in (BYTES, SAMPLES), "no faults here"
         if kind == SAMPLES:
             samples = body
             continue
         for byte in body:
-            if state.due or state.extended:
-                found[-1].operands.append(byte)
-            else:
-                found.append(Command(byte))
-            state, refusal, used, replies, _ = step(state, 0, byte, samples)
+            if kind == BYTES:
+                note(found, state, byte)
+            state, refusal, used, replies, _ = step(state, int(kind == FAULT), byte, samples)
             assert refusal == 0, f"refusal {refusal} at {byte:02X}"
-            samples, found[-1].replies = samples[used:], found[-1].replies + replies
+            samples = samples[used:]
+            if kind == BYTES and replies:
+                found[-1].replies += replies
     return found
 
 # ---- I2C: reports have to be on, since a code tells the acknowledge ----
