@@ -19,7 +19,7 @@ use Rattle.decisions.proofs.Changes.{drop-same}
 use Rattle.bridge.specs.Answering.{Bridge, Taken, Lent, Given, given, acceptance, accepted, answerOf}
 use Rattle.bridge.specs.Demands.{outcome}
 use Rattle.bridge.specs.Views.{contextOf}
-use Rattle.bridge.specs.Faults.{FaultKeeps, butError, FaultInside, FaultCall, afterFault, afterFaults, AllTaken, lastCode, FaultCosts}
+use Rattle.bridge.specs.Faults.{FaultKeeps, butError, FaultInside, FaultCall, faulted, faultedAll, AllTaken, lastCode, FaultCosts}
 use Rattle.bridge.proofs.StepOutcomes.{Went, refused-for, was-accepted, went}
 use Rattle.bridge.proofs.Demand2.{demand-2}
 
@@ -36,7 +36,7 @@ pub fault-effect : (s : State) (f : Fault) (ss : List ℕ) (m : ℕ) → (effect
 unfolding effectOf effectFrom waveOf errorAfter
 fault-effect s f ss m = refl
 
-fault-taken : (b : Bridge) (c : FaultCall) {pending : Bool} → isIdle (b .state .wait) ≡ pending → outcome b (e.Fault (c .fault)) (c .lent) ≡ Taken → afterFault b c .state ≡ withDrop (butError (b .state) (faultCode (c .fault))) pending
+fault-taken : (b : Bridge) (c : FaultCall) {pending : Bool} → isIdle (b .state .wait) ≡ pending → outcome b (e.Fault (c .fault)) (c .lent) ≡ Taken → faulted b c .state ≡ withDrop (butError (b .state) (faultCode (c .fault))) pending
 fault-taken b c i z =
     ap (λ (g : Given). g .answer .bridge .state) (demand-2 b (e.Fault (c .fault)) (c .lent) .gives z) ∙ fault-effect (b .state) (c .fault) _ _
     ∙ ap (withDrop (butError (b .state) (faultCode (c .fault)))) i
@@ -59,11 +59,11 @@ fault-inside b f l n inside z = fault-taken b (record { fault = f; lent = l }) i
     undropped = no-drop (b .state .drop) refl
 
 -- ONE OR SEVERAL: the state is the first's but for ERROR, and one drop is pending
-faults-taken : (b : Bridge) (c : FaultCall) (cs : List FaultCall) → b .state .wait ≡ v.Nothing → AllTaken b c cs → afterFaults b c cs .state ≡ withDrop (butError (b .state) (lastCode c cs)) true
+faults-taken : (b : Bridge) (c : FaultCall) (cs : List FaultCall) → b .state .wait ≡ v.Nothing → AllTaken b c cs → faultedAll b c cs .state ≡ withDrop (butError (b .state) (lastCode c cs)) true
 faults-taken b c [] i z = fault-taken b c (ap isIdle i) z
 faults-taken b c (d ∷ ds) i z =
     let q = fault-taken b c (ap isIdle i) (z .0) in
-    faults-taken (afterFault b c) d ds (ap (λ (s : State). s .wait) q ∙ i) (z .1) ∙ ap (λ (s : State). withDrop (butError s (lastCode d ds)) true) q
+    faults-taken (faulted b c) d ds (ap (λ (s : State). s .wait) q ∙ i) (z .1) ∙ ap (λ (s : State). withDrop (butError s (lastCode d ds)) true) q
 
 -- A BYTE DROPPED
 pub drop-effect : (s : State) (x : ℕ) (ss : List ℕ) (m : ℕ) → s .drop ≡ true → effectOf s (e.Byte x) ss m ≡ record { state = withDrop s false; said = []; actions = []; used = 0 }
@@ -76,7 +76,7 @@ drop-given s l = refl
 
 pub fault-costs : (b : Bridge) (c : FaultCall) (cs : List FaultCall) (x : ℕ) (l : Lent) → FaultCosts b c cs x l
 fault-costs b c cs x l n zs z =
-    let f = afterFaults b c cs in
+    let f = faultedAll b c cs in
     let t = butError (b .state) (lastCode c cs) in
     let q = faults-taken b c cs (n .waits-for-nothing) zs in
     demand-2 f (e.Byte x) l .gives z

@@ -32,16 +32,16 @@ pub record FaultCall : Type 0 where
   pub fault : Fault
   pub lent : Lent
 
-abbrev pub afterFault : Bridge → FaultCall → Bridge
-afterFault b c = (answerOf b (e.Fault (c .fault)) (c .lent)) .answer .bridge
+abbrev pub faulted : Bridge → FaultCall → Bridge
+faulted b c = (answerOf b (e.Fault (c .fault)) (c .lent)) .answer .bridge
 
-abbrev pub afterFaults : Bridge → FaultCall → List FaultCall → Bridge
-afterFaults b c [] = afterFault b c
-afterFaults b c (d ∷ ds) = afterFaults (afterFault b c) d ds
+abbrev pub faultedAll : Bridge → FaultCall → List FaultCall → Bridge
+faultedAll b c [] = faulted b c
+faultedAll b c (d ∷ ds) = faultedAll (faulted b c) d ds
 
 abbrev pub AllTaken : Bridge → FaultCall → List FaultCall → Type 0
 AllTaken b c [] = outcome b (e.Fault (c .fault)) (c .lent) ≡ Taken
-AllTaken b c (d ∷ ds) = (outcome b (e.Fault (c .fault)) (c .lent) ≡ Taken) × AllTaken (afterFault b c) d ds
+AllTaken b c (d ∷ ds) = (outcome b (e.Fault (c .fault)) (c .lent) ≡ Taken) × AllTaken (faulted b c) d ds
 
 abbrev pub lastCode : FaultCall → List FaultCall → ℕ
 lastCode c [] = faultCode (c .fault)
@@ -51,5 +51,5 @@ lastCode c (d ∷ ds) = lastCode d ds
 -- first fault but for ERROR, which holds the last fault's code; and the byte's call returns no code, uses no sample, and writes nothing.
 -- So they cost exactly one byte.
 abbrev pub FaultCosts : Bridge → FaultCall → List FaultCall → ℕ → Lent → Type 0
-FaultCosts b c cs x l = BetweenCommands (b .state) → AllTaken b c cs → outcome (afterFaults b c cs) (e.Byte x) l ≡ Taken
-    → answerOf (afterFaults b c cs) (e.Byte x) l ≡ given (acceptance (butError (b .state) (lastCode c cs)) [] 0 0 0) (l .actions) (l .replies)
+FaultCosts b c cs x l = BetweenCommands (b .state) → AllTaken b c cs → outcome (faultedAll b c cs) (e.Byte x) l ≡ Taken
+    → answerOf (faultedAll b c cs) (e.Byte x) l ≡ given (acceptance (butError (b .state) (lastCode c cs)) [] 0 0 0) (l .actions) (l .replies)

@@ -34,6 +34,7 @@ pub fn measure(s: State, event: Event, samples: &[u8], sampled: usize) -> Measur
     let change = d.change;
     let pending = decisions::drop_after(s, event);
     let mut changed = changes::apply(s, change);
+    // marked here, so that no change carries it
     changed.drop = pending;
     let page = changed.page;
     let wave = d.wave;

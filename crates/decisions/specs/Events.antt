@@ -64,8 +64,8 @@ abbrev pub decisionOf : State → Event → Decision
 decisionOf s (e.Byte x) = cond (s .drop) dropped (byteDecision s (s .wait) x)
 decisionOf s (e.Fault f) = returns (faultCode f)
 
--- WHETHER A DROP IS PENDING AFTER IT (02, Ask 2): "Between commands .. a fault also makes the bridge drop the next good byte without a code. .. Inside an
--- item the rule of 01 stays"; a byte ends the drop
+-- WHETHER A DROP IS PENDING AFTER IT (02, Ask 2): "Between commands .. a fault also makes the bridge drop the next good byte without a
+-- code. .. Inside an item the rule of 01 stays"; a byte ends the drop
 abbrev pub dropAfter : Wait → Event → Bool
 dropAfter w (e.Byte x) = false
 dropAfter w (e.Fault f) = isIdle w
