@@ -1,8 +1,8 @@
 // What the actions of an event make of a line's level.
 ghost use Rattle.std.specs.Prelude.{◌≡◌};
 ghost use Rattle.wire.specs.Action.{action};
-ghost use Rattle.actions.specs.Reading.{actionsIn};
-ghost use Rattle.actions.specs.Levels.{drivenLevel, first_of, sampledNext, firstDriven};
+ghost use Rattle.actions.specs.Reading.{actions_in};
+ghost use Rattle.actions.specs.Levels.{driven_level, first_of, sampled_next, first_driven};
 
 use crate::reading::{Action, action_at, no_action, wait_of};
 use wire::{ACTION_BYTES, VERB_DRIVE_HIGH, VERB_DRIVE_LOW, VERB_RELEASE, VERB_SAMPLE_LINE};
@@ -19,7 +19,7 @@ pub const FREE: u8 = b'z';
 
 // The level that an action drives its line to; one that drives none leaves it free.
 pub fn driven_level(a: Action) -> u8
-    ensures { result ≡ drivenLevel a.verb }
+    ensures { result ≡ driven_level a.verb }
 {
     let verb = a.verb;
     match verb {
@@ -38,7 +38,7 @@ struct Found {
 
 // The first action of a line with a verb from one to another; none if there is none.
 fn first_of(actions: &[u8], line: usize, least: u8, most: u8) -> Found
-    ensures { (action result.action.verb result.action.line result.action.value, result.waited) ≡ first_of line least most 0 (actionsIn actions.now) }
+    ensures { (action result.action.verb result.action.line result.action.value, result.waited) ≡ first_of line least most 0 (actions_in actions.now) }
 {
     let mut waited: u64 = 0;
     let mut at: usize = 0;
@@ -58,7 +58,7 @@ fn first_of(actions: &[u8], line: usize, least: u8, most: u8) -> Found
 
 // Whether the next thing that happens to a line is a sample, with no long wait right before it.
 pub fn is_sampled(actions: &[u8], line: usize) -> bool
-    ensures { result ≡ sampledNext line (actionsIn actions.now) }
+    ensures { result ≡ sampled_next line (actions_in actions.now) }
 {
     let next = first_of(actions, line, VERB_RELEASE, VERB_SAMPLE_LINE);
     (next.action.verb == VERB_SAMPLE_LINE) & (next.waited <= NEAR)
@@ -66,7 +66,7 @@ pub fn is_sampled(actions: &[u8], line: usize) -> bool
 
 // The level that actions first drive a line to; free if they don't drive it.
 pub fn first_driven(actions: &[u8], line: usize) -> u8
-    ensures { result ≡ firstDriven line (actionsIn actions.now) }
+    ensures { result ≡ first_driven line (actions_in actions.now) }
 {
     let first = first_of(actions, line, VERB_DRIVE_LOW, VERB_DRIVE_HIGH);
     driven_level(first.action)

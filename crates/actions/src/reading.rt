@@ -1,8 +1,8 @@
 // An action read from its four bytes.
 ghost use Rattle.std.specs.Prelude.{◌≡◌};
 ghost use Rattle.wire.specs.Action.{action};
-ghost use Rattle.wire.specs.Sample.{isSampling};
-ghost use Rattle.actions.specs.Reading.{noAction, actionAt, isWait, waitOf};
+ghost use Rattle.wire.specs.Sample.{is_sampling};
+ghost use Rattle.actions.specs.Reading.{no_action, action_at, is_wait, wait_of};
 
 use records::reading::joined;
 use wire::{
@@ -22,7 +22,7 @@ pub struct Action {
 
 // What stands for an action where there is none.
 pub fn no_action() -> Action
-    ensures { action result.verb result.line result.value ≡ noAction }
+    ensures { action result.verb result.line result.value ≡ no_action }
 {
     Action {
         verb: NO_VERB,
@@ -33,7 +33,7 @@ pub fn no_action() -> Action
 
 // The action whose bytes start at a place; there is none where four bytes are not left.
 pub fn action_at(actions: &[u8], at: usize) -> Action
-    ensures { action result.verb result.line result.value ≡ actionAt actions.now at }
+    ensures { action result.verb result.line result.value ≡ action_at actions.now at }
 {
     if actions.len() < at {
         return no_action();
@@ -50,13 +50,13 @@ pub fn action_at(actions: &[u8], at: usize) -> Action
 
 // Whether an action takes one of the samples.
 pub fn is_sample(a: Action) -> bool
-    ensures { result ≡ isSampling a.verb }
+    ensures { result ≡ is_sampling a.verb }
 {
     (a.verb == VERB_SAMPLE_LINE) | (a.verb == VERB_SAMPLE_PORT)
 }
 
 pub fn is_wait(a: Action) -> bool
-    ensures { result ≡ isWait a.verb }
+    ensures { result ≡ is_wait a.verb }
 {
     (a.verb == VERB_WAIT_MICROSECONDS)
         | (a.verb == VERB_WAIT_MILLISECONDS)
@@ -65,7 +65,7 @@ pub fn is_wait(a: Action) -> bool
 
 // How many microseconds a wait takes, an IOG cycle taken as one; what is no wait takes none.
 pub fn wait_of(a: Action) -> u64
-    ensures { result ≡ waitOf (action a.verb a.line a.value) }
+    ensures { result ≡ wait_of (action a.verb a.line a.value) }
 {
     let value = a.value as u64;
     let verb = a.verb;

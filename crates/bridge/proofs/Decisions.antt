@@ -6,7 +6,7 @@ use mathlib.Core.List.{List, [], ◌∷◌}
 use lib.Dec.{eqb}
 use Rattle.codes.proofs.Lookup.{either}
 use Rattle.grammar.specs.Grammar.{Needs, Operands, legal, count}
-use Rattle.grammar.specs.WrongCode.{codeFor}
+use Rattle.grammar.specs.WrongCode.{code_for}
 use Rattle.grammar.specs.Scanner.{Opening, going, opened}
 use Rattle.grammar.specs.declared.ContextChange.{ContextChange}
 use Rattle.grammar.specs.declared.Scanned.{Scanned}
@@ -18,14 +18,14 @@ use Rattle.commands.specs.declared.Command.{Command}
 use Rattle.decisions.specs.Decisions.{returns, sends}
 use Rattle.decisions.specs.declared.Decision.{Decision}
 use Rattle.decisions.specs.declared.Answer.TheVariants.{ReturnsAndSends}
-use Rattle.commands.specs.Legality.{legalityOf}
-use Rattle.decisions.specs.Rejections.{readsConfiguration, rejectedClause}
+use Rattle.commands.specs.Legality.{legality_of}
+use Rattle.decisions.specs.Rejections.{reads_configuration, rejected_clause}
 use Rattle.commands.specs.declared.Legality.{Legality}
 use Rattle.commands.specs.declared.Legality.TheVariants.{Legal, Rejected}
 use Rattle.decisions.specs.Changes.{changed}
-use Rattle.decisions.specs.Effects.{said_of, effectFrom, carriedOut}
-use Rattle.decisions.specs.Events.{clauseOf, commandDecided, commandDecision}
-use Rattle.decisions.proofs.Answers.{accepting, accepting-said}
+use Rattle.decisions.specs.Effects.{said_of, effect_from, carried_out}
+use Rattle.decisions.specs.Events.{clause_of, command_decided, command_decision}
+use Rattle.decisions.proofs.Answers.{accepting, accepting_said}
 use Rattle.bridge.specs.Views.{context_of}
 use Rattle.bridge.proofs.View.{view_of}
 use Rattle.bridge.proofs.Openings.{row}
@@ -36,22 +36,22 @@ DecisionAgrees s (g.Accepted v) d = (accepting d.answer ≡ true) × (view_of (c
 DecisionAgrees s (g.Rejected w) d = ((r : State) (x : ℕ) → codes_of (said_of r x d.answer) ≡ w ∷ []) × (view_of (changed s d.change) ≡ view_of s)
 
 -- the view does not have what a decision's carrying out adds: a received packet and ERROR
-pub carried-agrees : (s : State) (t : Scanned) (d : Decision) (ss : List ℕ) (m : ℕ) → DecisionAgrees s t d → Agree t (codes_of (carriedOut s d ss m).said) (view_of s) (view_of (carriedOut s d ss m).state)
-unfolding effectFrom
-carried-agrees s (g.Accepted v) d ss m h = (accepting-said _ _ d.answer h.0, h.1)
-carried-agrees s (g.Rejected w) d ss m h = (h.0 _ _, h.1)
+pub carried_agrees : (s : State) (t : Scanned) (d : Decision) (ss : List ℕ) (m : ℕ) → DecisionAgrees s t d → Agree t (codes_of (carried_out s d ss m).said) (view_of s) (view_of (carried_out s d ss m).state)
+unfolding effect_from
+carried_agrees s (g.Accepted v) d ss m h = (accepting_said _ _ d.answer h.0, h.1)
+carried_agrees s (g.Rejected w) d ss m h = (h.0 _ _, h.1)
 
 module _ (s : State) where
-  returns-code : (w : ℕ) → DecisionAgrees s (g.Rejected w) (returns w)
+  returns_code : (w : ℕ) → DecisionAgrees s (g.Rejected w) (returns w)
   unfolding codes_of
-  returns-code w = (λ r x. refl, refl)
+  returns_code w = (λ r x. refl, refl)
 
-  sends-code : (w : ℕ) → DecisionAgrees s (g.Rejected w) (sends (ReturnsAndSends w))
+  sends_code : (w : ℕ) → DecisionAgrees s (g.Rejected w) (sends (ReturnsAndSends w))
   unfolding codes_of
-  sends-code w = (λ r x. refl, refl)
+  sends_code w = (λ r x. refl, refl)
 
-  rejects-code : (c : Command) (w : ℕ) → DecisionAgrees s (g.Rejected w) (rejectedClause c w)
-  rejects-code c w = either (DecisionAgrees s (g.Rejected w)) (eqb w 0x40 && readsConfiguration c) (sends (ReturnsAndSends w)) (returns w) (sends-code w) (returns-code w)
+  rejects_code : (c : Command) (w : ℕ) → DecisionAgrees s (g.Rejected w) (rejected_clause c w)
+  rejects_code c w = either (DecisionAgrees s (g.Rejected w)) (eqb w 0x40 && reads_configuration c) (sends (ReturnsAndSends w)) (returns w) (sends_code w) (returns_code w)
 
   module _ (b : ℕ) where
     -- A BYTE b WHERE AN ITEM MAY BEGIN, and the decision for it
@@ -64,30 +64,30 @@ module _ (s : State) where
 
     -- LEGALITY AGREES with a row's needs, and so does what the command decides
     abbrev Matches : Command → Needs → Type 0
-    Matches c n = legalityOf s.page.flags s.page.configured c ≡ cond (legal n (context_of s)) Legal (Rejected (codeFor n (context_of s)))
+    Matches c n = legality_of s.page.flags s.page.configured c ≡ cond (legal n (context_of s)) Legal (Rejected (code_for n (context_of s)))
 
-    pub legal-row : (c : Command) (n : Needs) → Matches c n → (o : Operands) (e : ContextChange) → Goes o e (clauseOf s c) → Opens (row b n o e) (commandDecision s c)
-    legal-row c n q o e h = subst (λ (l : Legality). Opens (row b n o e) (commandDecided s c l)) (sym q) (go (legal n (context_of s)))
+    pub legal_row : (c : Command) (n : Needs) → Matches c n → (o : Operands) (e : ContextChange) → Goes o e (clause_of s c) → Opens (row b n o e) (command_decision s c)
+    legal_row c n q o e h = subst (λ (l : Legality). Opens (row b n o e) (command_decided s c l)) (sym q) (go (legal n (context_of s)))
       where
-        go : (t : Bool) → DecisionAgrees s (cond t (g.Accepted (going e (count o (context_of s)) b (context_of s))) (g.Rejected (codeFor n (context_of s)))) (commandDecided s c (cond t Legal (Rejected (codeFor n (context_of s)))))
+        go : (t : Bool) → DecisionAgrees s (cond t (g.Accepted (going e (count o (context_of s)) b (context_of s))) (g.Rejected (code_for n (context_of s)))) (command_decided s c (cond t Legal (Rejected (code_for n (context_of s)))))
         go true = h
-        go false = rejects-code c (codeFor n (context_of s))
+        go false = rejects_code c (code_for n (context_of s))
 
     -- no byte is rejected but with the code that rejects it
-    pub rejected-row : (c : Command) (w : ℕ) → legalityOf s.page.flags s.page.configured c ≡ Rejected w → DecisionAgrees s (g.Rejected w) (commandDecision s c)
-    rejected-row c w q = subst (λ (l : Legality). DecisionAgrees s (g.Rejected w) (commandDecided s c l)) (sym q) (rejects-code c w)
+    pub rejected_row : (c : Command) (w : ℕ) → legality_of s.page.flags s.page.configured c ≡ Rejected w → DecisionAgrees s (g.Rejected w) (command_decision s c)
+    rejected_row c w q = subst (λ (l : Legality). DecisionAgrees s (g.Rejected w) (command_decided s c l)) (sym q) (rejects_code c w)
 
 -- a flag and the interface that it selects
-pub selected-matches : {t u : Bool} → t ≡ u → cond (not t) (Rejected 0x84) Legal ≡ cond u Legal (Rejected 0x84)
-selected-matches {t} {u} q = subst (λ (z : Bool). cond (not t) (Rejected 0x84) Legal ≡ cond z Legal (Rejected 0x84)) q (go t)
+pub selected_matches : {t u : Bool} → t ≡ u → cond (not t) (Rejected 0x84) Legal ≡ cond u Legal (Rejected 0x84)
+selected_matches {t} {u} q = subst (λ (z : Bool). cond (not t) (Rejected 0x84) Legal ≡ cond z Legal (Rejected 0x84)) q (go t)
   where
     go : (t : Bool) → cond (not t) (Rejected 0x84) Legal ≡ cond t Legal (Rejected 0x84)
     go true = refl
     go false = refl
 
 -- .. with a configuration needed: 40 where it is selected and not configured, 84 where it is not selected
-pub configured-matches : {t u : Bool} (y : Bool) → t ≡ u → cond (not t) (Rejected 0x84) (cond (not y) (Rejected 0x40) Legal) ≡ cond (u && y) Legal (Rejected (cond u 0x40 0x84))
-configured-matches {t} {u} y q = subst (λ (z : Bool). cond (not t) (Rejected 0x84) (cond (not y) (Rejected 0x40) Legal) ≡ cond (z && y) Legal (Rejected (cond z 0x40 0x84))) q (go t y)
+pub configured_matches : {t u : Bool} (y : Bool) → t ≡ u → cond (not t) (Rejected 0x84) (cond (not y) (Rejected 0x40) Legal) ≡ cond (u && y) Legal (Rejected (cond u 0x40 0x84))
+configured_matches {t} {u} y q = subst (λ (z : Bool). cond (not t) (Rejected 0x84) (cond (not y) (Rejected 0x40) Legal) ≡ cond (z && y) Legal (Rejected (cond z 0x40 0x84))) q (go t y)
   where
     go : (t y : Bool) → cond (not t) (Rejected 0x84) (cond (not y) (Rejected 0x40) Legal) ≡ cond (t && y) Legal (Rejected (cond t 0x40 0x84))
     go true true = refl

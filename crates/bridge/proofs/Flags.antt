@@ -5,31 +5,31 @@ use mathlib.Core.Bool.{Bool, true, false, cond}
 use native.Mathlib.Omega.{arith}
 use borrow.Author.Tests.{eqb-true}
 use lib.Dec.{eqb}
-use Rattle.grammar.specs.Grammar.{interfaceNumber}
+use Rattle.grammar.specs.Grammar.{interface_number}
 use Rattle.grammar.specs.declared.Interface.{Interface}
 use Rattle.grammar.specs.declared.Interface.TheVariants.{NoInterface, I2C, SPI, OneWire}
-use Rattle.registers.specs.Registers.{i2cSelected, spiSelected, oneWireSelected}
-use Rattle.registers.specs.Ranges.{selectedCount}
-use Rattle.registers.proofs.Flags.{same-selected}
-use Rattle.bridge.specs.Views.{interfaceOf}
+use Rattle.registers.specs.Registers.{i2c_selected, spi_selected, one_wire_selected}
+use Rattle.registers.specs.Ranges.{selected_count}
+use Rattle.registers.proofs.Flags.{same_selected}
+use Rattle.bridge.specs.Views.{interface_of}
 
 -- THE THREE LOW BITS say it, so a command that leaves them leaves the interface
 
 abbrev choose : Bool → Bool → Bool → Interface
 choose a b c = cond a I2C (cond b SPI (cond c OneWire NoInterface))
 
-pub same-interface : (f g : ℕ) → f % 8 ≡ g % 8 → interfaceOf f ≡ interfaceOf g
-same-interface f g h = let t = same-selected f g h in λ i. choose (eqb (t.i2c i) 1) (eqb (t.spi i) 1) (eqb (t.one-wire i) 1)
+pub same_interface : (f g : ℕ) → f % 8 ≡ g % 8 → interface_of f ≡ interface_of g
+same_interface f g h = let t = same_selected f g h in λ i. choose (eqb (t.i2c i) 1) (eqb (t.spi i) 1) (eqb (t.one_wire i) 1)
 
 -- A FLAG IS SET exactly if its interface is the one selected
 pub record OneSelected (flags : ℕ) : Type 0 where
-  pub i2c : i2cSelected flags ≡ eqb (interfaceNumber (interfaceOf flags)) (interfaceNumber I2C)
-  pub spi : spiSelected flags ≡ eqb (interfaceNumber (interfaceOf flags)) (interfaceNumber SPI)
-  pub one-wire : oneWireSelected flags ≡ eqb (interfaceNumber (interfaceOf flags)) (interfaceNumber OneWire)
+  pub i2c : i2c_selected flags ≡ eqb (interface_number (interface_of flags)) (interface_number I2C)
+  pub spi : spi_selected flags ≡ eqb (interface_number (interface_of flags)) (interface_number SPI)
+  pub one_wire : one_wire_selected flags ≡ eqb (interface_number (interface_of flags)) (interface_number OneWire)
 
 -- the same of three Booleans
 abbrev Apart : Bool → Bool → Bool → Type 0
-Apart a b c = (a ≡ eqb (interfaceNumber (choose a b c)) 1) × (b ≡ eqb (interfaceNumber (choose a b c)) 2) × (c ≡ eqb (interfaceNumber (choose a b c)) 3)
+Apart a b c = (a ≡ eqb (interface_number (choose a b c)) 1) × (b ≡ eqb (interface_number (choose a b c)) 2) × (c ≡ eqb (interface_number (choose a b c)) 3)
 
 apart : (x y z : ℕ) → x + y + z ≤ 1 → (a b c : Bool) → eqb x 1 ≡ a → eqb y 1 ≡ b → eqb z 1 ≡ c → Apart a b c
 apart x y z h true true c p q r = let i = eqb-true x 1 p in let j = eqb-true y 1 q in absurd (omega arith)
@@ -40,7 +40,7 @@ apart x y z h false true false p q r = (refl, refl, refl)
 apart x y z h false false true p q r = (refl, refl, refl)
 apart x y z h false false false p q r = (refl, refl, refl)
 
-pub one_selected : (flags : ℕ) → selectedCount flags ≤ 1 → OneSelected flags
+pub one_selected : (flags : ℕ) → selected_count flags ≤ 1 → OneSelected flags
 one_selected flags h =
-    let t = apart (flags % 2) (flags / 2 % 2) (flags / 4 % 2) h (i2cSelected flags) (spiSelected flags) (oneWireSelected flags) refl refl refl in
-    record { i2c = t.0; spi = t.1; one-wire = t.2 }
+    let t = apart (flags % 2) (flags / 2 % 2) (flags / 4 % 2) h (i2c_selected flags) (spi_selected flags) (one_wire_selected flags) refl refl refl in
+    record { i2c = t.0; spi = t.1; one_wire = t.2 }

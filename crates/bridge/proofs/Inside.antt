@@ -9,7 +9,7 @@ use Rattle.grammar.specs.Scanner.{going, between}
 use Rattle.grammar.specs.declared.ContextChange.TheVariants.{Keep}
 use Rattle.grammar.specs.declared.Place.TheVariants.{Inside}
 use Rattle.grammar.specs.declared.Scanned.TheVariants.{Accepted}
-use Rattle.registers.specs.Registers.{bitsIn}
+use Rattle.registers.specs.Registers.{bits_in}
 use Rattle.registers.specs.declared.State.{State}
 use Rattle.registers.specs.declared.PortRegister.{PortRegister}
 use Rattle.registers.specs.declared.PortRegister.TheVariants as r
@@ -18,47 +18,47 @@ use Rattle.registers.specs.declared.Operand.TheVariants as o
 use Rattle.commands.specs.declared.Command.{Command}
 use Rattle.decisions.specs.declared.Decision.{Decision}
 use Rattle.decisions.specs.Changes.{changed}
-use Rattle.decisions.specs.Operands.{operandClause, loadedClause, packetClause, timingsClause}
-use Rattle.decisions.specs.Events.{commandDecision}
+use Rattle.decisions.specs.Operands.{operand_clause, loaded_clause, packet_clause, timings_clause}
+use Rattle.decisions.specs.Events.{command_decision}
 use Rattle.decisions.specs.declared.Change.TheVariants as c
 use Rattle.commands.specs.declared.Command.TheVariants as k
 use Rattle.commands.specs.declared.ExtendedCommand.{ExtendedCommand}
 use Rattle.commands.specs.declared.ExtendedCommand.TheVariants as x
 use Rattle.bridge.specs.Views.{context_of}
-use Rattle.bridge.proofs.View.{operandChange, view_of}
-use Rattle.bridge.proofs.Openings.{extendedOpening, commandOpening, isExtended}
+use Rattle.bridge.proofs.View.{operand_change, view_of}
+use Rattle.bridge.proofs.Openings.{extended_opening, command_opening, is_extended}
 use Rattle.grammar.proofs.Scans.{going_on}
-use Rattle.bridge.proofs.Decisions.{DecisionAgrees, Opens, rejected-row}
+use Rattle.bridge.proofs.Decisions.{DecisionAgrees, Opens, rejected_row}
 
 module _ (s : State) (b : ℕ) where
   -- no port register is in the view
-  port-view : (a : PortRegister) (n : ℕ) → view_of (changed s (c.Store a n)) ≡ between (context_of s)
-  port-view r.Ddrb n = refl
-  port-view r.Portb n = refl
-  port-view r.Ddrc n = refl
-  port-view r.Portc n = refl
-  port-view r.Ddrd n = refl
-  port-view r.Portd n = refl
+  port_view : (a : PortRegister) (n : ℕ) → view_of (changed s (c.Store a n)) ≡ between (context_of s)
+  port_view r.Ddrb n = refl
+  port_view r.Portb n = refl
+  port_view r.Ddrc n = refl
+  port_view r.Portc n = refl
+  port_view r.Ddrd n = refl
+  port_view r.Portd n = refl
 
   -- AFTER 1D
-  extended-agrees : (a : ExtendedCommand) → Opens s b (extendedOpening b a) (commandDecision s (k.Extended a))
-  extended-agrees (x.Pulse a t level u n) = (refl, port-view a _)
-  extended-agrees (x.SetBit a t on) = (refl, port-view a _)
-  extended-agrees x.LoadCycles = (refl, refl)
-  extended-agrees x.ReadCycles = (refl, refl)
+  extended_agrees : (a : ExtendedCommand) → Opens s b (extended_opening b a) (command_decision s (k.Extended a))
+  extended_agrees (x.Pulse a t level u n) = (refl, port_view a _)
+  extended_agrees (x.SetBit a t on) = (refl, port_view a _)
+  extended_agrees x.LoadCycles = (refl, refl)
+  extended_agrees x.ReadCycles = (refl, refl)
 
-  pub after-agrees : (a : Command) → isExtended a ≡ true → Opens s b (commandOpening b a) (commandDecision s a)
-  after-agrees (k.Common a) h = absurd (false≢true h)
-  after-agrees (k.Extended a) h = extended-agrees a
-  after-agrees (k.I2c a) h = absurd (false≢true h)
-  after-agrees (k.Spi a) h = absurd (false≢true h)
-  after-agrees (k.OneWire a) h = absurd (false≢true h)
-  after-agrees k.Unknown h = rejected-row s b k.Unknown 0x80 refl
+  pub after_agrees : (a : Command) → is_extended a ≡ true → Opens s b (command_opening b a) (command_decision s a)
+  after_agrees (k.Common a) h = absurd (false≢true h)
+  after_agrees (k.Extended a) h = extended_agrees a
+  after_agrees (k.I2c a) h = absurd (false≢true h)
+  after_agrees (k.Spi a) h = absurd (false≢true h)
+  after_agrees (k.OneWire a) h = absurd (false≢true h)
+  after_agrees k.Unknown h = rejected_row s b k.Unknown 0x80 refl
 
   -- AN OPERAND
 
-  pub operand_agrees : (a : Operand) → DecisionAgrees s (Accepted (going (operandChange a) 0 b (context_of s))) (operandClause s.page a b)
-  operand_agrees (o.ToPort a) = (refl, port-view a _)
+  pub operand_agrees : (a : Operand) → DecisionAgrees s (Accepted (going (operand_change a) 0 b (context_of s))) (operand_clause s.page a b)
+  operand_agrees (o.ToPort a) = (refl, port_view a _)
   operand_agrees o.ToCycles = (refl, refl)
   operand_agrees o.ToI2c = (refl, refl)
   operand_agrees o.ToConfig = (refl, refl)
@@ -79,12 +79,12 @@ module _ (s : State) (b : ℕ) where
           (f.0, f.1 ∙ ap (λ (m : ℕ). going Keep m b (context_of s)) z)
       go false e = let n = eqb-false left 1 e in (g.0, g.1 ∙ going_on Keep (left - 1) b (context_of s) (λ z. omega arith))
 
-  loaded-agrees : (at : ℕ) (exchange : Bool) → DecisionAgrees s (Accepted (between (context_of s))) (loadedClause at b exchange)
-  loaded-agrees at true = (refl, refl)
-  loaded-agrees at false = (refl, refl)
+  loaded_agrees : (at : ℕ) (exchange : Bool) → DecisionAgrees s (Accepted (between (context_of s))) (loaded_clause at b exchange)
+  loaded_agrees at true = (refl, refl)
+  loaded_agrees at false = (refl, refl)
 
-  pub packet-agrees : (left : ℕ) (exchange : Bool) → 1 ≤ left → DecisionAgrees s (Accepted (going Keep (left - 1) b (context_of s))) (packetClause (bitsIn s.page) left exchange b)
-  packet-agrees left exchange h = counted left _ _ h (loaded-agrees _ exchange) (refl, refl)
+  pub packet_agrees : (left : ℕ) (exchange : Bool) → 1 ≤ left → DecisionAgrees s (Accepted (going Keep (left - 1) b (context_of s))) (packet_clause (bits_in s.page) left exchange b)
+  packet_agrees left exchange h = counted left _ _ h (loaded_agrees _ exchange) (refl, refl)
 
-  pub timings-agree : (left : ℕ) → 1 ≤ left → DecisionAgrees s (Accepted (going Keep (left - 1) b (context_of s))) (timingsClause left b)
-  timings-agree left h = counted left _ _ h (refl, refl) (refl, refl)
+  pub timings_agree : (left : ℕ) → 1 ≤ left → DecisionAgrees s (Accepted (going Keep (left - 1) b (context_of s))) (timings_clause left b)
+  timings_agree left h = counted left _ _ h (refl, refl) (refl, refl)

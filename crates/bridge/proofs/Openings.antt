@@ -2,14 +2,14 @@
 use Prim.Native.Nat.{ℕ, ◌<◌}
 use mathlib.Core.Path.{◌≡◌, refl}
 use mathlib.Core.Bool.{Bool, true, false}
-use Rattle.grammar.specs.Grammar.{Needs, Common, Selected, Configured, Operands, None, One, Nine, Packet, commands, extendedCommands}
-use Rattle.grammar.specs.Scanner.{Opening, Unknown, Known, Extension, openingOf, extensionOf}
+use Rattle.grammar.specs.Grammar.{Needs, Common, Selected, Configured, Operands, None, One, Nine, Packet, commands, extended_commands}
+use Rattle.grammar.specs.Scanner.{Opening, Unknown, Known, Extension, opening_of, extension_of}
 use Rattle.grammar.specs.declared.Interface.TheVariants.{I2C, SPI, OneWire}
 use Rattle.grammar.specs.declared.ContextChange.{ContextChange}
 use Rattle.grammar.specs.declared.ContextChange.TheVariants.{Keep, Clear, Select, Configure, Resize}
-use Rattle.grammar.proofs.Lookups.{values, byte-fact}
+use Rattle.grammar.proofs.Lookups.{values, byte_fact}
 use Rattle.codes.proofs.Lookup.{found_all}
-use Rattle.commands.specs.Commands.{extendedTable, commandTable, commandOf}
+use Rattle.commands.specs.Commands.{extended_table, command_table, command_of}
 use Rattle.commands.specs.declared.Command.{Command}
 use Rattle.commands.specs.declared.Command.TheVariants as k
 use Rattle.commands.specs.declared.CommonCommand.{CommonCommand}
@@ -28,107 +28,107 @@ use Rattle.commands.specs.declared.OneWireCommand.TheVariants as w
 abbrev pub row : ℕ → Needs → Operands → ContextChange → Opening
 row b n o e = Known (record { code = b; needs = n; operands = o; change = e })
 
-abbrev pub commonOpening : ℕ → CommonCommand → Opening
-commonOpening b m.ResetDevice = row b Common None Clear
-commonOpening b m.SelectI2c = row b Common None (Select I2C)
-commonOpening b m.SelectSpi = row b Common None (Select SPI)
-commonOpening b m.SelectOneWire = row b Common None (Select OneWire)
-commonOpening b m.ReadError = row b Common None Keep
-commonOpening b m.SaveToEprom = row b Common None Keep
-commonOpening b m.ReadFromEprom = row b Common None Keep
-commonOpening b (m.SetReports on) = row b Common None Keep
-commonOpening b (m.SetAutoload on) = row b Common None Keep
-commonOpening b (m.SetupPort r) = row b Common One Keep
-commonOpening b (m.ReadPort r) = row b Common None Keep
-commonOpening b (m.ReadPins line) = row b Common None Keep
-commonOpening b m.ReadFlags = row b Common None Keep
-commonOpening b m.ReadVersion = row b Common None Keep
-commonOpening b m.SetIog = row b Common None Keep
-commonOpening b m.DoExtended = Extension
-commonOpening b m.ReadSerial = row b Common None Keep
+abbrev pub common_opening : ℕ → CommonCommand → Opening
+common_opening b m.ResetDevice = row b Common None Clear
+common_opening b m.SelectI2c = row b Common None (Select I2C)
+common_opening b m.SelectSpi = row b Common None (Select SPI)
+common_opening b m.SelectOneWire = row b Common None (Select OneWire)
+common_opening b m.ReadError = row b Common None Keep
+common_opening b m.SaveToEprom = row b Common None Keep
+common_opening b m.ReadFromEprom = row b Common None Keep
+common_opening b (m.SetReports on) = row b Common None Keep
+common_opening b (m.SetAutoload on) = row b Common None Keep
+common_opening b (m.SetupPort r) = row b Common One Keep
+common_opening b (m.ReadPort r) = row b Common None Keep
+common_opening b (m.ReadPins line) = row b Common None Keep
+common_opening b m.ReadFlags = row b Common None Keep
+common_opening b m.ReadVersion = row b Common None Keep
+common_opening b m.SetIog = row b Common None Keep
+common_opening b m.DoExtended = Extension
+common_opening b m.ReadSerial = row b Common None Keep
 
-abbrev pub extendedOpening : ℕ → ExtendedCommand → Opening
-extendedOpening b (x.Pulse r t level unit n) = row b Common None Keep
-extendedOpening b (x.SetBit r t on) = row b Common None Keep
-extendedOpening b x.LoadCycles = row b Common One Keep
-extendedOpening b x.ReadCycles = row b Common None Keep
+abbrev pub extended_opening : ℕ → ExtendedCommand → Opening
+extended_opening b (x.Pulse r t level unit n) = row b Common None Keep
+extended_opening b (x.SetBit r t on) = row b Common None Keep
+extended_opening b x.LoadCycles = row b Common One Keep
+extended_opening b x.ReadCycles = row b Common None Keep
 
-abbrev pub i2cOpening : ℕ → I2cCommand → Opening
-i2cOpening b i.SendStart = row b (Selected I2C) None Keep
-i2cOpening b i.SendStop = row b (Selected I2C) None Keep
-i2cOpening b i.SendByte = row b (Selected I2C) One Keep
-i2cOpening b (i.ReadByte answer) = row b (Selected I2C) None Keep
-i2cOpening b (i.DriveCs verb) = row b (Selected I2C) None Keep
-i2cOpening b i.ReadCs = row b (Selected I2C) None Keep
+abbrev pub i2c_opening : ℕ → I2cCommand → Opening
+i2c_opening b i.SendStart = row b (Selected I2C) None Keep
+i2c_opening b i.SendStop = row b (Selected I2C) None Keep
+i2c_opening b i.SendByte = row b (Selected I2C) One Keep
+i2c_opening b (i.ReadByte answer) = row b (Selected I2C) None Keep
+i2c_opening b (i.DriveCs verb) = row b (Selected I2C) None Keep
+i2c_opening b i.ReadCs = row b (Selected I2C) None Keep
 
-abbrev pub spiOpening : ℕ → SpiCommand → Opening
-spiOpening b p.LoadConfig = row b (Selected SPI) One Configure
-spiOpening b p.ReadConfig = row b Configured None Keep
-spiOpening b p.LoadSize = row b (Selected SPI) One Resize
-spiOpening b p.ReadSize = row b (Selected SPI) None Keep
-spiOpening b (p.LoadPacket exchange) = row b Configured Packet Keep
-spiOpening b p.ReadPacket = row b (Selected SPI) None Keep
-spiOpening b p.StartExchange = row b Configured None Keep
-spiOpening b (p.DriveSs verb) = row b (Selected SPI) None Keep
-spiOpening b p.ReadSs = row b (Selected SPI) None Keep
-spiOpening b p.ReadLow = row b (Selected SPI) None Keep
-spiOpening b p.ExchangeAndRead = row b Configured None Keep
+abbrev pub spi_opening : ℕ → SpiCommand → Opening
+spi_opening b p.LoadConfig = row b (Selected SPI) One Configure
+spi_opening b p.ReadConfig = row b Configured None Keep
+spi_opening b p.LoadSize = row b (Selected SPI) One Resize
+spi_opening b p.ReadSize = row b (Selected SPI) None Keep
+spi_opening b (p.LoadPacket exchange) = row b Configured Packet Keep
+spi_opening b p.ReadPacket = row b (Selected SPI) None Keep
+spi_opening b p.StartExchange = row b Configured None Keep
+spi_opening b (p.DriveSs verb) = row b (Selected SPI) None Keep
+spi_opening b p.ReadSs = row b (Selected SPI) None Keep
+spi_opening b p.ReadLow = row b (Selected SPI) None Keep
+spi_opening b p.ExchangeAndRead = row b Configured None Keep
 
-abbrev pub oneWireOpening : ℕ → OneWireCommand → Opening
-oneWireOpening b w.SendReset = row b (Selected OneWire) None Keep
-oneWireOpening b w.SendByte = row b (Selected OneWire) One Keep
-oneWireOpening b w.SendBit = row b (Selected OneWire) One Keep
-oneWireOpening b w.SendStrong = row b (Selected OneWire) One Keep
-oneWireOpening b w.ReadByte = row b (Selected OneWire) None Keep
-oneWireOpening b w.ReadBit = row b (Selected OneWire) None Keep
-oneWireOpening b w.LoadTimings = row b (Selected OneWire) Nine Keep
-oneWireOpening b w.ReadTimings = row b (Selected OneWire) None Keep
-oneWireOpening b w.ReleaseDq = row b (Selected OneWire) None Keep
-oneWireOpening b (w.PulsePb7 unit n) = row b (Selected OneWire) None Keep
+abbrev pub one_wire_opening : ℕ → OneWireCommand → Opening
+one_wire_opening b w.SendReset = row b (Selected OneWire) None Keep
+one_wire_opening b w.SendByte = row b (Selected OneWire) One Keep
+one_wire_opening b w.SendBit = row b (Selected OneWire) One Keep
+one_wire_opening b w.SendStrong = row b (Selected OneWire) One Keep
+one_wire_opening b w.ReadByte = row b (Selected OneWire) None Keep
+one_wire_opening b w.ReadBit = row b (Selected OneWire) None Keep
+one_wire_opening b w.LoadTimings = row b (Selected OneWire) Nine Keep
+one_wire_opening b w.ReadTimings = row b (Selected OneWire) None Keep
+one_wire_opening b w.ReleaseDq = row b (Selected OneWire) None Keep
+one_wire_opening b (w.PulsePb7 unit n) = row b (Selected OneWire) None Keep
 
-abbrev pub commandOpening : ℕ → Command → Opening
-commandOpening b (k.Common c) = commonOpening b c
-commandOpening b (k.Extended c) = extendedOpening b c
-commandOpening b (k.I2c c) = i2cOpening b c
-commandOpening b (k.Spi c) = spiOpening b c
-commandOpening b (k.OneWire c) = oneWireOpening b c
-commandOpening b k.Unknown = Unknown
+abbrev pub command_opening : ℕ → Command → Opening
+command_opening b (k.Common c) = common_opening b c
+command_opening b (k.Extended c) = extended_opening b c
+command_opening b (k.I2c c) = i2c_opening b c
+command_opening b (k.Spi c) = spi_opening b c
+command_opening b (k.OneWire c) = one_wire_opening b c
+command_opening b k.Unknown = Unknown
 
 -- ALL BYTES, between commands and after 1D
 
-openings : values openingOf 256 0 ≡ values (λ (b : ℕ). commandOpening b (commandOf false b)) 256 0
-unfolding openingOf commands
+openings : values opening_of 256 0 ≡ values (λ (b : ℕ). command_opening b (command_of false b)) 256 0
+unfolding opening_of commands
 openings = refl
 
-extensions : values extensionOf 256 0 ≡ values (λ (b : ℕ). commandOpening b (commandOf true b)) 256 0
-unfolding extensionOf extendedCommands
+extensions : values extension_of 256 0 ≡ values (λ (b : ℕ). command_opening b (command_of true b)) 256 0
+unfolding extension_of extended_commands
 extensions = refl
 
-pub opening-is : (b : ℕ) → b < 256 → openingOf b ≡ commandOpening b (commandOf false b)
-opening-is b h = byte-fact openingOf (λ (b : ℕ). commandOpening b (commandOf false b)) openings b h
+pub opening_is : (b : ℕ) → b < 256 → opening_of b ≡ command_opening b (command_of false b)
+opening_is b h = byte_fact opening_of (λ (b : ℕ). command_opening b (command_of false b)) openings b h
 
-pub extension-is : (b : ℕ) → b < 256 → extensionOf b ≡ commandOpening b (commandOf true b)
-extension-is b h = byte-fact extensionOf (λ (b : ℕ). commandOpening b (commandOf true b)) extensions b h
+pub extension_is : (b : ℕ) → b < 256 → extension_of b ≡ command_opening b (command_of true b)
+extension_is b h = byte_fact extension_of (λ (b : ℕ). command_opening b (command_of true b)) extensions b h
 
 -- a command of a byte between commands, and of one after 1D
-abbrev pub isBetween : Command → Bool
-isBetween (k.Common c) = true
-isBetween (k.Extended c) = false
-isBetween (k.I2c c) = true
-isBetween (k.Spi c) = true
-isBetween (k.OneWire c) = true
-isBetween k.Unknown = true
+abbrev pub is_between : Command → Bool
+is_between (k.Common c) = true
+is_between (k.Extended c) = false
+is_between (k.I2c c) = true
+is_between (k.Spi c) = true
+is_between (k.OneWire c) = true
+is_between k.Unknown = true
 
-abbrev pub isExtended : Command → Bool
-isExtended (k.Common c) = false
-isExtended (k.Extended c) = true
-isExtended (k.I2c c) = false
-isExtended (k.Spi c) = false
-isExtended (k.OneWire c) = false
-isExtended k.Unknown = true
+abbrev pub is_extended : Command → Bool
+is_extended (k.Common c) = false
+is_extended (k.Extended c) = true
+is_extended (k.I2c c) = false
+is_extended (k.Spi c) = false
+is_extended (k.OneWire c) = false
+is_extended k.Unknown = true
 
-pub between_is : (b : ℕ) → isBetween (commandOf false b) ≡ true
-between_is b = found_all isBetween k.Unknown b commandTable refl refl
+pub between_is : (b : ℕ) → is_between (command_of false b) ≡ true
+between_is b = found_all is_between k.Unknown b command_table refl refl
 
-pub extended-is : (b : ℕ) → isExtended (commandOf true b) ≡ true
-extended-is b = found_all isExtended k.Unknown b extendedTable refl refl
+pub extended_is : (b : ℕ) → is_extended (command_of true b) ≡ true
+extended_is b = found_all is_extended k.Unknown b extended_table refl refl

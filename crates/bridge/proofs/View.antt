@@ -13,20 +13,20 @@ use Rattle.registers.specs.declared.Wait.TheVariants as v
 use Rattle.bridge.specs.Views.{context_of}
 
 -- what the item that ends with an operand does to the context
-abbrev pub operandChange : Operand → ContextChange
-operandChange (o.ToPort r) = Keep
-operandChange o.ToCycles = Keep
-operandChange o.ToI2c = Keep
-operandChange o.ToConfig = Configure
-operandChange o.ToSize = Resize
-operandChange o.ToOneWire = Keep
-operandChange o.ToOneWireBit = Keep
-operandChange o.ToOneWireStrong = Keep
+abbrev pub operand_change : Operand → ContextChange
+operand_change (o.ToPort r) = Keep
+operand_change o.ToCycles = Keep
+operand_change o.ToI2c = Keep
+operand_change o.ToConfig = Configure
+operand_change o.ToSize = Resize
+operand_change o.ToOneWire = Keep
+operand_change o.ToOneWireBit = Keep
+operand_change o.ToOneWireStrong = Keep
 
 -- a place counts the bytes after the next, so a wait for so many is inside with one less
 abbrev pub place_of : Wait → Place
 place_of v.Nothing = Between
-place_of (v.One a) = Inside (operandChange a) 0
+place_of (v.One a) = Inside (operand_change a) 0
 place_of v.Extended = Extended
 place_of (v.Packet left exchange) = Inside Keep (left - 1)
 place_of (v.Timings left) = Inside Keep (left - 1)

@@ -2,14 +2,14 @@
 -- this, and the demands (Demands.antt) are about it.
 use Rattle.std.specs.Prelude.{ℕ, Bool, cond, List, [], length}
 use Rattle.wire.specs.Action.{bytes_of}
-use Rattle.wire.specs.Buffer.{overwrite, fitsIn}
-use Rattle.registers.specs.Ranges.{stateFits}
+use Rattle.wire.specs.Buffer.{overwrite, fits_in}
+use Rattle.registers.specs.Ranges.{state_fits}
 use Rattle.registers.specs.declared.State.{State}
 use Rattle.registers.specs.declared.Event.{Event}
 use Rattle.decisions.specs.Said.{codes_of}
-use Rattle.decisions.specs.Effects.{Effect, sentBy}
+use Rattle.decisions.specs.Effects.{Effect, sent_by}
 use Rattle.decisions.specs.Events.{effect_of}
-use Rattle.effects.specs.Returning.{codesIn}
+use Rattle.effects.specs.Returning.{codes_in}
 use Rattle.refusals.specs.declared.Refusal.{Refusal}
 use Rattle.refusals.specs.declared.Refusal.TheVariants.{Ranges, Samples, Actions, Replies}
 pub use Rattle.bridge.specs.declared.Bridge.{Bridge}
@@ -40,7 +40,7 @@ pub record Answered : Type 0 where
 
 -- .. as `step` hands it back
 abbrev pub answered : Stepped → Answered
-answered r = record { bridge = r.bridge; outcome = r.outcome; codes = codesIn r.returned; samples = r.samples; replies = r.replies; actions = r.actions }
+answered r = record { bridge = r.bridge; outcome = r.outcome; codes = codes_in r.returned; samples = r.samples; replies = r.replies; actions = r.actions }
 
 -- what a call gives: its answer, and what it leaves in the two buffers
 pub record Given : Type 0 where
@@ -67,7 +67,7 @@ acceptance s codes samples replies actions = record { bridge = record { state = 
 
 -- "Replies and actions of an event are written to the unused rest of a lent buffer"
 abbrev pub accepted : Effect → Lent → Given
-accepted x l = given (acceptance x.state (codes_of x.said) x.used (length (sentBy x)) (length x.actions)) (overwrite l.actions l.acted (bytes_of x.actions)) (overwrite l.replies l.replied (sentBy x))
+accepted x l = given (acceptance x.state (codes_of x.said) x.used (length (sent_by x)) (length x.actions)) (overwrite l.actions l.acted (bytes_of x.actions)) (overwrite l.replies l.replied (sent_by x))
 
 -- a call is refused unless a test says true
 abbrev pub unless : Bool → Given → Given → Given
@@ -76,8 +76,8 @@ unless fits refusal rest = cond fits rest refusal
 -- "The lowest number that applies is given"
 unfoldable pub answer_of : Bridge → Event → Lent → Given
 answer_of b e l =
-    unless (stateFits b.state) (refused b l Ranges)
-    (unless (fitsIn (length l.samples) l.sampled (effect b e l).used) (refused b l Samples)
-    (unless (fitsIn (length l.actions) l.acted (length (bytes_of (effect b e l).actions))) (refused b l Actions)
-    (unless (fitsIn (length l.replies) l.replied (length (sentBy (effect b e l)))) (refused b l Replies)
+    unless (state_fits b.state) (refused b l Ranges)
+    (unless (fits_in (length l.samples) l.sampled (effect b e l).used) (refused b l Samples)
+    (unless (fits_in (length l.actions) l.acted (length (bytes_of (effect b e l).actions))) (refused b l Actions)
+    (unless (fits_in (length l.replies) l.replied (length (sent_by (effect b e l)))) (refused b l Replies)
     (accepted (effect b e l) l))))

@@ -1,5 +1,5 @@
 -- The three demands on the bridge's call, over the definition that the contract of `step` cites (Answering.antt). Open this file first.
--- Proofs: `demand-1` in proofs/Demand1.antt, `demand-2` in proofs/Demand2.antt, `demand-3` in proofs/Demand3.antt.
+-- Proofs: `demand_1` in proofs/Demand1.antt, `demand_2` in proofs/Demand2.antt, `demand_3` in proofs/Demand3.antt.
 -- What an event does, `effect_of`, is in decisions/specs/Events.antt, which names the files of the clauses: a command's in Common, Extended,
 -- I2c, Spi or OneWire, an operand's, a packet's or a timing byte's in Operands, a rejected byte's in Rejections. Which command a byte is and
 -- whether it is legal is in commands/specs/Commands.antt and Legality.antt. What a waveform uses of the samples, `used`, is in its bus's
@@ -7,15 +7,15 @@
 -- lines and ports.
 use Rattle.std.specs.Prelude.{ℕ, ◌+◌, ◌-◌, ◌*◌, ◌<◌, ◌≡◌, Bool, true, false, List, [], ◌∷◌, ◌++◌, ◌↔◌, ◌⊎◌, length, take, drop}
 use Rattle.wire.specs.Action.{bytes_of}
-use Rattle.codes.specs.Codes.{rejecting, anyRejecting}
+use Rattle.codes.specs.Codes.{rejecting, any_rejecting}
 use Rattle.wire.specs.Sample.{samplings, SameFrom}
-use Rattle.registers.specs.Registers.{withPage, withError}
+use Rattle.registers.specs.Registers.{with_page, with_error}
 use Rattle.registers.specs.Ranges.{InRange, BetweenCommands, Sized}
 use Rattle.registers.specs.declared.Event.{Event}
 use Rattle.registers.specs.declared.Event.TheVariants as e
 use Rattle.registers.specs.declared.Wait.TheVariants as v
 use Rattle.decisions.specs.Said.{codes_of}
-use Rattle.decisions.specs.Effects.{sentBy}
+use Rattle.decisions.specs.Effects.{sent_by}
 use Rattle.grammar.specs.Machines.{Machine, Call}
 use Rattle.grammar.specs.Machines as grammar
 use Rattle.grammar.specs.Following.{Leads}
@@ -25,7 +25,7 @@ use Rattle.refusals.specs.declared.Refusal.{Refusal}
 use Rattle.refusals.specs.declared.Refusal.TheVariants.{Ranges, Samples, Actions, Replies, Header, Length, Passes, Kind, FaultBody, Size, Factory, Waits}
 use Rattle.bridge.specs.Answering.{Bridge, Outcome, Taken, Refused, Lent, effect, refused, accepted, answer_of}
 use Rattle.bridge.specs.Views.{context_of}
-use Rattle.bridge.specs.Judging.{Judged, judgementOf}
+use Rattle.bridge.specs.Judging.{Judged, judgement_of}
 
 abbrev pub outcome : Bridge → Event → Lent → Outcome
 outcome b e l = (answer_of b e l).answer.outcome
@@ -46,7 +46,7 @@ Applies b e l Samples = TooFew l.samples l.sampled (effect b e l).used
 -- 3 "the actions do not fit"
 Applies b e l Actions = TooFew l.actions l.acted (length (bytes_of (effect b e l).actions))
 -- 4 "the replies do not fit"
-Applies b e l Replies = TooFew l.replies l.replied (length (sentBy (effect b e l)))
+Applies b e l Replies = TooFew l.replies l.replied (length (sent_by (effect b e l)))
 -- 5 to 10 are a session's, 11 is switch-on's and 12 the judge's
 Applies b e l Header = ⊥
 Applies b e l Length = ⊥
@@ -62,8 +62,8 @@ abbrev pub Lowest : Bridge → Event → Lent → Refusal → Type 0
 Lowest b e l r = Applies b e l r × ((q : Refusal) → number_of q < number_of r → ¬ Applies b e l q)
 
 pub record Demand1 (b : Bridge) (e : Event) (l : Lent) : Type 0 where
-  pub exactly-when : (r : Refusal) → (outcome b e l ≡ Refused r) ↔ Lowest b e l r
-  pub taken-otherwise : (outcome b e l ≡ Taken) ↔ ((r : Refusal) → ¬ Applies b e l r)
+  pub exactly_when : (r : Refusal) → (outcome b e l ≡ Refused r) ↔ Lowest b e l r
+  pub taken_otherwise : (outcome b e l ≡ Taken) ↔ ((r : Refusal) → ¬ Applies b e l r)
   -- "the state it was given, no counts, and every lent byte unchanged"
   pub leaves : (r : Refusal) → outcome b e l ≡ Refused r → answer_of b e l ≡ refused b l r
 
@@ -79,26 +79,26 @@ pub record OnlyErrorChanged (b : Bridge) (e : Event) (l : Lent) : Type 0 where
   pub code : ℕ
   pub returned : (answer_of b e l).answer.codes ≡ code ∷ []
   pub rejects : rejecting code ≡ true
-  pub state : (answer_of b e l).answer.bridge.state ≡ withPage b.state (withError b.state.page code)
-  pub no-action : (answer_of b e l).answer.actions ≡ 0
-  pub no-sample : (answer_of b e l).answer.samples ≡ 0
+  pub state : (answer_of b e l).answer.bridge.state ≡ with_page b.state (with_error b.state.page code)
+  pub no_action : (answer_of b e l).answer.actions ≡ 0
+  pub no_sample : (answer_of b e l).answer.samples ≡ 0
   pub pins : (answer_of b e l).actions ≡ l.actions
 
 pub record Demand2 (b : Bridge) (e : Event) (l : Lent) : Type 0 where
   pub gives : outcome b e l ≡ Taken → answer_of b e l ≡ accepted (effect b e l) l
-  pub actions-written : outcome b e l ≡ Taken → (answer_of b e l).actions ≡ filled l.actions l.acted (bytes_of (effect b e l).actions)
-  pub replies-written : outcome b e l ≡ Taken → (answer_of b e l).replies ≡ filled l.replies l.replied (sentBy (effect b e l))
+  pub actions_written : outcome b e l ≡ Taken → (answer_of b e l).actions ≡ filled l.actions l.acted (bytes_of (effect b e l).actions)
+  pub replies_written : outcome b e l ≡ Taken → (answer_of b e l).replies ≡ filled l.replies l.replied (sent_by (effect b e l))
   -- the counts are of what was written and used: four bytes an action, a byte a reply byte
-  pub actions-counted : outcome b e l ≡ Taken → 4 * (answer_of b e l).answer.actions ≡ length (bytes_of (effect b e l).actions)
-  pub replies-counted : outcome b e l ≡ Taken → (answer_of b e l).answer.replies ≡ length (sentBy (effect b e l))
-  pub samples-counted : outcome b e l ≡ Taken → (answer_of b e l).answer.samples ≡ (effect b e l).used
+  pub actions_counted : outcome b e l ≡ Taken → 4 * (answer_of b e l).answer.actions ≡ length (bytes_of (effect b e l).actions)
+  pub replies_counted : outcome b e l ≡ Taken → (answer_of b e l).answer.replies ≡ length (sent_by (effect b e l))
+  pub samples_counted : outcome b e l ≡ Taken → (answer_of b e l).answer.samples ≡ (effect b e l).used
   -- and the samples used are those taken, by the actions with verb 3 or 7 (`Sized`: an array of the state has its size)
-  pub samples-taken : Sized b.state → outcome b e l ≡ Taken → (answer_of b e l).answer.samples ≡ samplings (effect b e l).actions
+  pub samples_taken : Sized b.state → outcome b e l ≡ Taken → (answer_of b e l).answer.samples ≡ samplings (effect b e l).actions
   -- the codes are those returned
-  pub codes-returned : outcome b e l ≡ Taken → (answer_of b e l).answer.codes ≡ codes_of (effect b e l).said
-  pub rejected : outcome b e l ≡ Taken → anyRejecting (answer_of b e l).answer.codes ≡ true → OnlyErrorChanged b e l
+  pub codes_returned : outcome b e l ≡ Taken → (answer_of b e l).answer.codes ≡ codes_of (effect b e l).said
+  pub rejected : outcome b e l ≡ Taken → any_rejecting (answer_of b e l).answer.codes ≡ true → OnlyErrorChanged b e l
 
--- THEOREM (proofs/Demand2.antt, `same-samples`): two calls whose samples agree, on the places that the first one uses and from the
+-- THEOREM (proofs/Demand2.antt, `same_samples`): two calls whose samples agree, on the places that the first one uses and from the
 -- marks on, do the same; so no sample is used but those counted
 pub record SameSamples (b : Bridge) (e : Event) (l k : Lent) : Type 0 where
   pub effects : SameFrom (effect b e l).used l.samples l.sampled k.samples k.sampled → effect b e l ≡ effect b e k
@@ -127,24 +127,24 @@ machine = record {
 abbrev pub Demand3 : Type 0
 Demand3 = (b : Bridge) → BetweenCommands b.state → (ks : List (Call machine)) → grammar.Demand3 machine b ks
 
--- THEOREM (proofs/Demand3.antt, `no-drop-made`): no list of bytes makes a drop
+-- THEOREM (proofs/Demand3.antt, `no_drop_made`): no list of bytes makes a drop
 abbrev pub NoDropMade : Type 0
 NoDropMade = (b : Bridge) → b.state.drop ≡ false → (ks : List (Call machine)) → (grammar.final machine b ks).state.drop ≡ false
 
--- THEOREM (proofs/Demand3.antt, `code-foretold`): over the same lists, the judge's call says that the bytes taken are wrong at k with the
+-- THEOREM (proofs/Demand3.antt, `code_foretold`): over the same lists, the judge's call says that the bytes taken are wrong at k with the
 -- code w exactly if the first rejected call is the one that handed over byte k, and w is the code that it returned; "The judge's wrong
 -- verdict also carries the code the bridge would return there: 80, 84 or 40" (02, Ask 1)
-abbrev pub bytesTaken : Bridge → List (Call machine) → List ℕ
-bytesTaken b ks = grammar.bytes machine (grammar.notRefused machine b ks)
+abbrev pub bytes_taken : Bridge → List (Call machine) → List ℕ
+bytes_taken b ks = grammar.bytes machine (grammar.not_refused machine b ks)
 
-abbrev pub codesTold : Bridge → List (Call machine) → List (List ℕ)
-codesTold b ks = grammar.told machine (grammar.notRefused machine b ks)
+abbrev pub codes_told : Bridge → List (Call machine) → List (List ℕ)
+codes_told b ks = grammar.told machine (grammar.not_refused machine b ks)
 
 abbrev pub CodeForetold : Type 0
 CodeForetold = (b : Bridge) → BetweenCommands b.state → (ks : List (Call machine)) (k w : ℕ)
-    → (judgementOf b (bytesTaken b ks) ≡ Judged (Wrong k w)) ↔ (grammar.FirstRejected (codesTold b ks) k × grammar.ReturnedAt (codesTold b ks) k w)
+    → (judgement_of b (bytes_taken b ks) ≡ Judged (Wrong k w)) ↔ (grammar.FirstRejected (codes_told b ks) k × grammar.ReturnedAt (codes_told b ks) k w)
 
--- THEOREM (proofs/Demand3.antt, `context-followed`): after any such list the context is where the grammar leads by the bytes taken
+-- THEOREM (proofs/Demand3.antt, `context_followed`): after any such list the context is where the grammar leads by the bytes taken
 -- alone, rejected ones among them; so a writer of command streams can count a packet's bytes without a bridge
 abbrev pub ContextFollowed : Type 0
 ContextFollowed = (b : Bridge) → BetweenCommands b.state → (ks : List (Call machine)) → Leads machine b ks

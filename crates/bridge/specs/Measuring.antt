@@ -3,12 +3,12 @@ use Rattle.std.specs.Prelude.{ℕ, ◌*◌, ◌<◌, ◌≡◌, List, length}
 use Rattle.packet.specs.Packet.{width}
 use Rattle.registers.specs.declared.State.{State}
 use Rattle.registers.specs.declared.Event.{Event}
-use Rattle.signals.specs.Waveforms.{waveOf}
+use Rattle.signals.specs.Waveforms.{wave_of}
 use Rattle.decisions.specs.Said.{codes_of}
-use Rattle.decisions.specs.Effects.{sentBy}
+use Rattle.decisions.specs.Effects.{sent_by}
 use Rattle.decisions.specs.Events.{effect_of}
-use Rattle.effects.specs.Replies.{replyBytes}
-use Rattle.effects.specs.Returning.{codesIn}
+use Rattle.effects.specs.Replies.{reply_bytes}
+use Rattle.effects.specs.Returning.{codes_in}
 pub use Rattle.bridge.specs.declared.measuring.Measured.{Measured}
 
 -- what is measured is the event's effect, and the size register stays in range
@@ -16,9 +16,9 @@ pub record MeasuredAs (s : State) (e : Event) (ss : List ℕ) (m : ℕ) (r : Mea
   pub used : r.used ≡ (effect_of s e ss m).used
   pub bytes : r.bytes ≡ 4 * length (effect_of s e ss m).actions
   pub state : r.state ≡ (effect_of s e ss m).state
-  pub codes : codesIn r.returned ≡ codes_of (effect_of s e ss m).said
-  pub replies : replyBytes r.state r.reply ≡ sentBy (effect_of s e ss m)
-  pub size : r.size ≡ length (sentBy (effect_of s e ss m))
-  pub actions : (waveOf r.page r.wave ss m).actions ≡ (effect_of s e ss m).actions
-  pub page-small : r.page.size < width
-  pub state-small : r.state.page.size < width
+  pub codes : codes_in r.returned ≡ codes_of (effect_of s e ss m).said
+  pub replies : reply_bytes r.state r.reply ≡ sent_by (effect_of s e ss m)
+  pub size : r.size ≡ length (sent_by (effect_of s e ss m))
+  pub actions : (wave_of r.page r.wave ss m).actions ≡ (effect_of s e ss m).actions
+  pub page_small : r.page.size < width
+  pub state_small : r.state.page.size < width

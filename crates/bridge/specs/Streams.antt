@@ -3,7 +3,7 @@ use Rattle.std.specs.Prelude.{◌<◌, ◌≡◌, cond, List, [], ◌∷◌}
 use Rattle.registers.specs.Ranges.{BetweenCommands}
 use Rattle.registers.specs.declared.Event.{Event}
 use Rattle.registers.specs.declared.Event.TheVariants as e
-use Rattle.grammar.specs.Following.{undisturbed, afterFault, afterBytes}
+use Rattle.grammar.specs.Following.{undisturbed, after_fault, after_bytes}
 use Rattle.grammar.specs.declared.following.Stream.{Stream}
 use Rattle.bridge.specs.Answering.{Bridge, Lent, answer_of}
 use Rattle.bridge.specs.Demands.{outcome, is_refused}
@@ -16,29 +16,29 @@ IsEvent (e.Fault f) = Unit {0}
 
 pub record EventCall : Type 0 where
   pub event : Event
-  pub is-event : IsEvent event
+  pub is_event : IsEvent event
   pub lent : Lent
 
 abbrev pub after_call : Bridge → EventCall → Bridge
 after_call b k = (answer_of b k.event k.lent).answer.bridge
 
-abbrev pub afterCalls : Bridge → List EventCall → Bridge
-afterCalls b [] = b
-afterCalls b (k ∷ ks) = afterCalls (after_call b k) ks
+abbrev pub after_calls : Bridge → List EventCall → Bridge
+after_calls b [] = b
+after_calls b (k ∷ ks) = after_calls (after_call b k) ks
 
 -- where the stream stands after an event, and after those of the calls not refused
-abbrev pub streamAfter : Stream → Event → Stream
-streamAfter t (e.Byte x) = afterBytes t (x ∷ [])
-streamAfter t (e.Fault f) = afterFault t
+abbrev pub stream_after : Stream → Event → Stream
+stream_after t (e.Byte x) = after_bytes t (x ∷ [])
+stream_after t (e.Fault f) = after_fault t
 
-abbrev pub streamAlong : Stream → Bridge → List EventCall → Stream
-streamAlong t b [] = t
-streamAlong t b (k ∷ ks) = streamAlong (cond (is_refused (outcome b k.event k.lent)) t (streamAfter t k.event)) (after_call b k) ks
+abbrev pub stream_along : Stream → Bridge → List EventCall → Stream
+stream_along t b [] = t
+stream_along t b (k ∷ ks) = stream_along (cond (is_refused (outcome b k.event k.lent)) t (stream_after t k.event)) (after_call b k) ks
 
--- THEOREM (proofs/Streams.antt, `stream-followed`): the bridge's context and its drop are where the events lead by themselves
+-- THEOREM (proofs/Streams.antt, `stream_followed`): the bridge's context and its drop are where the events lead by themselves
 pub record Followed (b : Bridge) (t : Stream) : Type 0 where
   pub context : context_of b.state ≡ t.scanner.context
   pub drop : b.state.drop ≡ t.drop
 
 abbrev pub StreamFollowed : Type 0
-StreamFollowed = (b : Bridge) → BetweenCommands b.state → (ks : List EventCall) → Followed (afterCalls b ks) (streamAlong (undisturbed (context_of b.state)) b ks)
+StreamFollowed = (b : Bridge) → BetweenCommands b.state → (ks : List EventCall) → Followed (after_calls b ks) (stream_along (undisturbed (context_of b.state)) b ks)

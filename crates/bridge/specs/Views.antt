@@ -4,12 +4,12 @@ use Rattle.std.specs.Prelude.{ℕ, cond}
 use Rattle.grammar.specs.declared.Interface.{Interface}
 use Rattle.grammar.specs.declared.Interface.TheVariants.{NoInterface, I2C, SPI, OneWire}
 use Rattle.grammar.specs.declared.Context.{Context}
-use Rattle.registers.specs.Registers.{i2cSelected, spiSelected, oneWireSelected, bitsIn}
+use Rattle.registers.specs.Registers.{i2c_selected, spi_selected, one_wire_selected, bits_in}
 use Rattle.registers.specs.declared.State.{State}
 
 -- COMMON_FLAGS: "bit 0 I2C, 1 SPI, 2 1-Wire"; a state that breaks no range has at most one of them set
-abbrev pub interfaceOf : ℕ → Interface
-interfaceOf flags = cond (i2cSelected flags) I2C (cond (spiSelected flags) SPI (cond (oneWireSelected flags) OneWire NoInterface))
+abbrev pub interface_of : ℕ → Interface
+interface_of flags = cond (i2c_selected flags) I2C (cond (spi_selected flags) SPI (cond (one_wire_selected flags) OneWire NoInterface))
 
 abbrev pub context_of : State → Context
-context_of s = record { interface = interfaceOf s.page.flags; configured = s.page.configured; bits = bitsIn s.page }
+context_of s = record { interface = interface_of s.page.flags; configured = s.page.configured; bits = bits_in s.page }

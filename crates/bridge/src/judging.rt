@@ -1,8 +1,8 @@
 // The judge's call: a start state and bytes.
 ghost use Rattle.std.specs.Prelude.{◌≡◌, ◌<◌};
 ghost use Rattle.packet.specs.Packet.{width};
-ghost use Rattle.bridge.specs.Views.{interfaceOf, context_of};
-ghost use Rattle.bridge.specs.Judging.{judgementOf};
+ghost use Rattle.bridge.specs.Views.{interface_of, context_of};
+ghost use Rattle.bridge.specs.Judging.{judgement_of};
 
 use crate::{Bridge, Judgement};
 use grammar::{Context, Interface};
@@ -12,7 +12,7 @@ use registers::{State, is_idle};
 
 // The interface that the flags select.
 fn interface(flags: u8) -> Interface
-    ensures { result ≡ interfaceOf flags }
+    ensures { result ≡ interface_of flags }
 {
     if i2c_selected(flags) {
         return Interface::I2C;
@@ -42,7 +42,7 @@ fn context(s: State) -> Context
 impl Bridge {
     // Judges bytes that would be handed over from here: whole, open, or wrong at a place.
     pub fn judge(self, bytes: &[u8]) -> Judgement
-        ensures { result ≡ judgementOf self bytes.now }
+        ensures { result ≡ judgement_of self bytes.now }
     {
         let s = self.state;
         if !registers::in_range(s) {

@@ -1,7 +1,7 @@
 // The bridge: one call for an event, and the judge's call.
 ghost use Rattle.std.specs.Prelude.{◌≡◌, ◌/◌};
 ghost use Rattle.registers.specs.Ranges.{InRange};
-ghost use Rattle.effects.specs.Returning.{codesIn};
+ghost use Rattle.effects.specs.Returning.{codes_in};
 ghost use Rattle.bridge.specs.Answering.{answered, refusal, acceptance, given, lent, answer_of};
 
 mod judging;
@@ -60,7 +60,7 @@ fn refused(b: Bridge, why: Refusal) -> Stepped
 
 // A taken call's answer, with the actions counted from their bytes.
 fn accepted(s: State, returned: Returned, samples: usize, replies: usize, bytes: usize) -> Stepped
-    ensures { answered result ≡ acceptance s (codesIn returned) samples replies (bytes / 4) }
+    ensures { answered result ≡ acceptance s (codes_in returned) samples replies (bytes / 4) }
 {
     Stepped {
         bridge: Bridge { state: s },

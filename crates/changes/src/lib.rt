@@ -1,7 +1,7 @@
 // Changes of the state, made: one call, so that the state goes through one place and not through every command.
 ghost use Rattle.std.specs.Prelude.{◌≡◌, ◌<◌};
 ghost use Rattle.packet.specs.Packet.{width};
-ghost use Rattle.registers.specs.Registers.{withPage, ended};
+ghost use Rattle.registers.specs.Registers.{with_page, ended};
 ghost use Rattle.decisions.specs.Changes.{changed};
 
 use decisions::Change;
@@ -81,7 +81,7 @@ fn end_wait(s: State) -> State
 
 // The page is another, and nothing is waited for or held.
 fn end_with_page(s: State, page: Page) -> State
-    ensures { result ≡ ended (withPage s page) }
+    ensures { result ≡ ended (with_page s page) }
 {
     end_wait(with_page(s, page))
 }

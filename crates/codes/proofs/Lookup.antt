@@ -13,14 +13,14 @@ abbrev pub Missed : {A : Type 0} → Type 0 → List (Entry A) → ℕ → Type 
 Missed N [] b = N
 Missed N (e ∷ es) b = Missed (N × (b ≡ e.code → ⊥)) es b
 
-missed-front : {A : Type 0} (N : Type 0) (es : List (Entry A)) (b : ℕ) → Missed N es b → N
-missed-front N [] b m = m
-missed-front N (e ∷ es) b m = (missed-front (N × (b ≡ e.code → ⊥)) es b m).0
+missed_front : {A : Type 0} (N : Type 0) (es : List (Entry A)) (b : ℕ) → Missed N es b → N
+missed_front N [] b m = m
+missed_front N (e ∷ es) b m = (missed_front (N × (b ≡ e.code → ⊥)) es b m).0
 
 pub missed : {A : Type 0} (unknown : A) (N : Type 0) (es : List (Entry A)) (b : ℕ) → Missed N es b → unknown ≡ lookup unknown b es
 missed unknown N [] b m = refl
 missed unknown N (e ∷ es) b m =
-    let ne = missed-front (N × (b ≡ e.code → ⊥)) es b m in
+    let ne = missed_front (N × (b ≡ e.code → ⊥)) es b m in
     rw (ne_eqb b e.code ne.1) (missed unknown (N × (b ≡ e.code → ⊥)) es b m)
 
 -- each meaning of a table has P

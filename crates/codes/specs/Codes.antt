@@ -6,20 +6,20 @@ use Prim.Native.String.{String}
 use Rattle.padding.specs.Padding.{bytes, padded}
 use Rattle.codes.specs.Tables.{Entry, ◌is◌, lookup}
 
-abbrev pub noError : ℕ
-noError = 0x00
+abbrev pub no_error : ℕ
+no_error = 0x00
 
-abbrev pub noAcknowledge : ℕ
-noAcknowledge = 0x20
+abbrev pub no_acknowledge : ℕ
+no_acknowledge = 0x20
 
-abbrev pub noConfiguration : ℕ
-noConfiguration = 0x40
+abbrev pub no_configuration : ℕ
+no_configuration = 0x40
 
-abbrev pub noPresence : ℕ
-noPresence = 0x60
+abbrev pub no_presence : ℕ
+no_presence = 0x60
 
-abbrev pub unknownCommand : ℕ
-unknownCommand = 0x80
+abbrev pub unknown_command : ℕ
+unknown_command = 0x80
 
 abbrev pub frame : ℕ
 frame = 0x81
@@ -30,8 +30,8 @@ overrun = 0x82
 abbrev pub parity : ℕ
 parity = 0x83
 
-abbrev pub wrongInterface : ℕ
-wrongInterface = 0x84
+abbrev pub wrong_interface : ℕ
+wrong_interface = 0x84
 
 -- THE TABLE: each code's words, and whether it rejects the byte that returned it
 pub record Meaning : Type 0 where
@@ -47,38 +47,38 @@ rejects = true
 abbrev pub passes : Bool
 passes = false
 
-abbrev pub codeTable : List (Entry Meaning)
-codeTable =
-    noError is means "none" passes
-    ∷ noAcknowledge is means "no acknowledge" passes
-    ∷ noConfiguration is means "no SPI configuration" rejects
-    ∷ noPresence is means "no presence" passes
-    ∷ unknownCommand is means "unknown command" rejects
+abbrev pub code_table : List (Entry Meaning)
+code_table =
+    no_error is means "none" passes
+    ∷ no_acknowledge is means "no acknowledge" passes
+    ∷ no_configuration is means "no SPI configuration" rejects
+    ∷ no_presence is means "no presence" passes
+    ∷ unknown_command is means "unknown command" rejects
     ∷ frame is means "frame" passes
     ∷ overrun is means "overrun" passes
     ∷ parity is means "parity" passes
-    ∷ wrongInterface is means "wrong interface" rejects
+    ∷ wrong_interface is means "wrong interface" rejects
     ∷ []
 
 -- of a number that is no code, no words
-abbrev pub meaningOf : ℕ → Meaning
-meaningOf k = lookup (means "" passes) k codeTable
+abbrev pub meaning_of : ℕ → Meaning
+meaning_of k = lookup (means "" passes) k code_table
 
 abbrev pub rejecting : ℕ → Bool
-rejecting k = (meaningOf k).rejects
+rejecting k = (meaning_of k).rejects
 
 -- REJECTED (01, "Registers and common commands"): "one that returns 80, or 40", or 84 (02, Ask 1), by the codes that a byte returned
-abbrev pub anyRejecting : List ℕ → Bool
-anyRejecting [] = false
-anyRejecting (k ∷ ks) = rejecting k || anyRejecting ks
+abbrev pub any_rejecting : List ℕ → Bool
+any_rejecting [] = false
+any_rejecting (k ∷ ks) = rejecting k || any_rejecting ks
 
 -- the widest words
-abbrev pub wordsWidth : ℕ
-wordsWidth = 20
+abbrev pub words_width : ℕ
+words_width = 20
 
 -- a code's words, padded with blanks to the widest
 abbrev pub words_in : Meaning → List ℕ
-words_in m = padded wordsWidth (bytes m.words)
+words_in m = padded words_width (bytes m.words)
 
 abbrev pub words_of : ℕ → List ℕ
-words_of k = words_in (meaningOf k)
+words_of k = words_in (meaning_of k)

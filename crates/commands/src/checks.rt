@@ -1,13 +1,13 @@
 // Whether a command is legal in a state: the one place that says so.
 ghost use Rattle.std.specs.Prelude.{◌≡◌};
-ghost use Rattle.commands.specs.Legality.{isListed, isSelected, needsConfiguration, spiNeedsConfiguration, legalityOf};
+ghost use Rattle.commands.specs.Legality.{is_listed, is_selected, needs_configuration, spi_needs_configuration, legality_of};
 
 use crate::{Command, Legality, SpiCommand};
 use registers::parts::{i2c_selected, one_wire_selected, spi_selected};
 
 // Whether it is a command at all.
 fn is_listed(c: Command) -> bool
-    ensures { result ≡ isListed c }
+    ensures { result ≡ is_listed c }
 {
     match c {
         Command::Common(_) => true,
@@ -21,7 +21,7 @@ fn is_listed(c: Command) -> bool
 
 // Whether a command is common, or of the interface that is selected; what is no command is neither.
 pub fn is_selected(flags: u8, c: Command) -> bool
-    ensures { result ≡ isSelected flags c }
+    ensures { result ≡ is_selected flags c }
 {
     match c {
         Command::Common(_) => true,
@@ -35,7 +35,7 @@ pub fn is_selected(flags: u8, c: Command) -> bool
 
 // 41, 44, 46, 4B, 4C.
 fn spi_needs_configuration(c: SpiCommand) -> bool
-    ensures { result ≡ spiNeedsConfiguration c }
+    ensures { result ≡ spi_needs_configuration c }
 {
     match c {
         SpiCommand::LoadConfig => false,
@@ -54,7 +54,7 @@ fn spi_needs_configuration(c: SpiCommand) -> bool
 
 // Whether a command needs SPI to be configured.
 fn needs_configuration(c: Command) -> bool
-    ensures { result ≡ needsConfiguration c }
+    ensures { result ≡ needs_configuration c }
 {
     match c {
         Command::Common(_) => false,
@@ -68,7 +68,7 @@ fn needs_configuration(c: Command) -> bool
 
 // Whether a command is legal on a page, or the code that rejects it.
 pub fn legality_of(flags: u8, configured: bool, c: Command) -> Legality
-    ensures { result ≡ legalityOf flags configured c }
+    ensures { result ≡ legality_of flags configured c }
 {
     if !is_listed(c) {
         return Legality::Rejected(codes::UNKNOWN_COMMAND);

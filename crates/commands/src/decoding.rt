@@ -1,6 +1,6 @@
 // Every command that 01 lists, by its byte.
 ghost use Rattle.std.specs.Prelude.{◌≡◌};
-ghost use Rattle.commands.specs.Commands.{commandOf};
+ghost use Rattle.commands.specs.Commands.{command_of};
 
 use crate::{Command, CommonCommand, ExtendedCommand, I2cCommand, OneWireCommand, SpiCommand};
 use registers::{Bit, PortRegister};
@@ -17,7 +17,7 @@ const MILLISECONDS: u8 = wire::VERB_WAIT_MILLISECONDS;
 // The command of a byte, between commands or after 1D. It is longer than other functions because it is the list itself, a row a
 // command.
 pub fn command_of(extended: bool, b: u8) -> Command
-    ensures { result ≡ commandOf extended b }
+    ensures { result ≡ command_of extended b }
 {
     if extended {
         match b {

@@ -3,19 +3,19 @@ use Prim.Native.Nat.{ℕ}
 use mathlib.Core.Path.{◌≡◌, refl, ap}
 use mathlib.Core.Bool.{Bool}
 use mathlib.Core.List.{List, [], ◌∷◌, map}
-use Rattle.decisions.specs.Said.{sent, errorAfter, repliesOf, codes_of}
+use Rattle.decisions.specs.Said.{sent, error_after, replies_of, codes_of}
 
-pub error-sent : (e : ℕ) (xs : List ℕ) → errorAfter e (map sent xs) ≡ e
-unfolding errorAfter
-error-sent e [] = refl
-error-sent e (x ∷ xs) = error-sent e xs
+pub error_sent : (e : ℕ) (xs : List ℕ) → error_after e (map sent xs) ≡ e
+unfolding error_after
+error_sent e [] = refl
+error_sent e (x ∷ xs) = error_sent e xs
 
-pub replies-sent : (reports : Bool) (xs : List ℕ) → repliesOf reports (map sent xs) ≡ xs
-unfolding repliesOf
-replies-sent reports [] = refl
-replies-sent reports (x ∷ xs) = ap (λ (r : List ℕ). x ∷ r) (replies-sent reports xs)
+pub replies_sent : (reports : Bool) (xs : List ℕ) → replies_of reports (map sent xs) ≡ xs
+unfolding replies_of
+replies_sent reports [] = refl
+replies_sent reports (x ∷ xs) = ap (λ (r : List ℕ). x ∷ r) (replies_sent reports xs)
 
-pub codes-sent : (xs : List ℕ) → codes_of (map sent xs) ≡ []
+pub codes_sent : (xs : List ℕ) → codes_of (map sent xs) ≡ []
 unfolding codes_of
-codes-sent [] = refl
-codes-sent (x ∷ xs) = codes-sent xs
+codes_sent [] = refl
+codes_sent (x ∷ xs) = codes_sent xs

@@ -16,15 +16,15 @@ use Rattle.registers.specs.declared.Fault.TheVariants as f
 use Rattle.registers.specs.declared.Event.{Event}
 use Rattle.registers.specs.declared.Event.TheVariants as e
 use Rattle.signals.specs.Samples.{steady}
-use Rattle.commands.specs.Commands.{extendedTable, commandTable, commandOf}
+use Rattle.commands.specs.Commands.{extended_table, command_table, command_of}
 use Rattle.commands.specs.declared.Command.{Command}
 use Rattle.decisions.specs.Decisions.{Change, Decision, ReturnsAndSends, returns, sends}
-use Rattle.commands.specs.Legality.{legalityOf}
+use Rattle.commands.specs.Legality.{legality_of}
 use Rattle.commands.specs.declared.Legality.{Legality}
 use Rattle.commands.specs.declared.Legality.TheVariants.{Legal, Rejected}
-use Rattle.decisions.specs.Rejections.{readsConfiguration}
-use Rattle.decisions.specs.Operands.{operandClause, loadedClause}
-use Rattle.decisions.specs.Events.{clauseOf, commandDecided, byteDecision, decisionOf}
+use Rattle.decisions.specs.Rejections.{reads_configuration}
+use Rattle.decisions.specs.Operands.{operand_clause, loaded_clause}
+use Rattle.decisions.specs.Events.{clause_of, command_decided, byte_decision, decision_of}
 use Rattle.decisions.specs.declared.Change.TheVariants as c
 use Rattle.commands.specs.declared.Command.TheVariants as k
 use Rattle.decisions.proofs.Answers.{accepting, short}
@@ -52,50 +52,50 @@ abbrev pub proper : Decision → Bool
 proper d = accepting d.answer && ((stays d.change || short d.answer) && steady d.wave)
 
 pub data Sorted (d : Decision) : Type 0 where
-  is-proper : proper d ≡ true → Sorted d
+  is_proper : proper d ≡ true → Sorted d
   coded : (code : ℕ) → d ≡ returns code → Sorted d
-  coded-and-sent : (code : ℕ) → d ≡ sends (ReturnsAndSends code) → Sorted d
+  coded_and_sent : (code : ℕ) → d ≡ sends (ReturnsAndSends code) → Sorted d
 
 module _ (s : State) where
-  clause-proper : (extended : Bool) (b : ℕ) → proper (clauseOf s (commandOf extended b)) ≡ true
-  clause-proper true b = found_all (λ (x : Command). proper (clauseOf s x)) k.Unknown b extendedTable refl refl
-  clause-proper false b = found_all (λ (x : Command). proper (clauseOf s x)) k.Unknown b commandTable refl refl
+  clause_proper : (extended : Bool) (b : ℕ) → proper (clause_of s (command_of extended b)) ≡ true
+  clause_proper true b = found_all (λ (x : Command). proper (clause_of s x)) k.Unknown b extended_table refl refl
+  clause_proper false b = found_all (λ (x : Command). proper (clause_of s x)) k.Unknown b command_table refl refl
 
-  decided-sorted : (extended : Bool) (b : ℕ) (l : Legality) → Sorted (commandDecided s (commandOf extended b) l)
-  decided-sorted extended b Legal = is-proper (clause-proper extended b)
-  decided-sorted extended b (Rejected k) = either Sorted (eqb k 0x40 && readsConfiguration (commandOf extended b)) _ _ (coded-and-sent k refl) (coded k refl)
+  decided_sorted : (extended : Bool) (b : ℕ) (l : Legality) → Sorted (command_decided s (command_of extended b) l)
+  decided_sorted extended b Legal = is_proper (clause_proper extended b)
+  decided_sorted extended b (Rejected k) = either Sorted (eqb k 0x40 && reads_configuration (command_of extended b)) _ _ (coded_and_sent k refl) (coded k refl)
 
-  port-sorted : (a : PortRegister) (b : ℕ) → Sorted (operandClause s.page (o.ToPort a) b)
-  port-sorted r.Ddrb b = is-proper refl
-  port-sorted r.Portb b = is-proper refl
-  port-sorted r.Ddrc b = is-proper refl
-  port-sorted r.Portc b = is-proper refl
-  port-sorted r.Ddrd b = is-proper refl
-  port-sorted r.Portd b = is-proper refl
+  port_sorted : (a : PortRegister) (b : ℕ) → Sorted (operand_clause s.page (o.ToPort a) b)
+  port_sorted r.Ddrb b = is_proper refl
+  port_sorted r.Portb b = is_proper refl
+  port_sorted r.Ddrc b = is_proper refl
+  port_sorted r.Portc b = is_proper refl
+  port_sorted r.Ddrd b = is_proper refl
+  port_sorted r.Portd b = is_proper refl
 
-  operand-sorted : (a : Operand) (b : ℕ) → Sorted (operandClause s.page a b)
-  operand-sorted (o.ToPort a) b = port-sorted a b
-  operand-sorted o.ToCycles b = is-proper refl
-  operand-sorted o.ToI2c b = is-proper refl
-  operand-sorted o.ToConfig b = is-proper refl
-  operand-sorted o.ToSize b = is-proper refl
-  operand-sorted o.ToOneWire b = is-proper refl
-  operand-sorted o.ToOneWireBit b = is-proper refl
-  operand-sorted o.ToOneWireStrong b = is-proper refl
+  operand_sorted : (a : Operand) (b : ℕ) → Sorted (operand_clause s.page a b)
+  operand_sorted (o.ToPort a) b = port_sorted a b
+  operand_sorted o.ToCycles b = is_proper refl
+  operand_sorted o.ToI2c b = is_proper refl
+  operand_sorted o.ToConfig b = is_proper refl
+  operand_sorted o.ToSize b = is_proper refl
+  operand_sorted o.ToOneWire b = is_proper refl
+  operand_sorted o.ToOneWireBit b = is_proper refl
+  operand_sorted o.ToOneWireStrong b = is_proper refl
 
-  loaded-sorted : (at b : ℕ) (exchange : Bool) → Sorted (loadedClause at b exchange)
-  loaded-sorted at b true = is-proper refl
-  loaded-sorted at b false = is-proper refl
+  loaded_sorted : (at b : ℕ) (exchange : Bool) → Sorted (loaded_clause at b exchange)
+  loaded_sorted at b true = is_proper refl
+  loaded_sorted at b false = is_proper refl
 
-  pub byte-sorted : (a : Wait) (b : ℕ) → Sorted (byteDecision s a b)
-  byte-sorted v.Nothing b = decided-sorted false b (legalityOf s.page.flags s.page.configured (commandOf false b))
-  byte-sorted (v.One a) b = operand-sorted a b
-  byte-sorted v.Extended b = decided-sorted true b (legalityOf s.page.flags s.page.configured (commandOf true b))
-  byte-sorted (v.Packet left exchange) b = either Sorted (eqb left 1) _ _ (loaded-sorted _ b exchange) (is-proper refl)
-  byte-sorted (v.Timings left) b = either Sorted (eqb left 1) _ _ (is-proper refl) (is-proper refl)
+  pub byte_sorted : (a : Wait) (b : ℕ) → Sorted (byte_decision s a b)
+  byte_sorted v.Nothing b = decided_sorted false b (legality_of s.page.flags s.page.configured (command_of false b))
+  byte_sorted (v.One a) b = operand_sorted a b
+  byte_sorted v.Extended b = decided_sorted true b (legality_of s.page.flags s.page.configured (command_of true b))
+  byte_sorted (v.Packet left exchange) b = either Sorted (eqb left 1) _ _ (loaded_sorted _ b exchange) (is_proper refl)
+  byte_sorted (v.Timings left) b = either Sorted (eqb left 1) _ _ (is_proper refl) (is_proper refl)
 
-  pub decision-sorted : (a : Event) → Sorted (decisionOf s a)
-  decision-sorted (e.Byte b) = either Sorted s.drop _ _ (is-proper refl) (byte-sorted s.wait b)
-  decision-sorted (e.Fault f.Frame) = is-proper refl
-  decision-sorted (e.Fault f.Overrun) = is-proper refl
-  decision-sorted (e.Fault f.Parity) = is-proper refl
+  pub decision_sorted : (a : Event) → Sorted (decision_of s a)
+  decision_sorted (e.Byte b) = either Sorted s.drop _ _ (is_proper refl) (byte_sorted s.wait b)
+  decision_sorted (e.Fault f.Frame) = is_proper refl
+  decision_sorted (e.Fault f.Overrun) = is_proper refl
+  decision_sorted (e.Fault f.Parity) = is_proper refl

@@ -2,75 +2,75 @@
 -- The clauses of the commands are in Common, Extended, I2c, Spi and OneWire, those of other bytes in Operands, that of a rejected command
 -- in Rejections, and what a change means is in Changes. Which command a byte is and whether it is legal is in commands/specs/.
 use Rattle.std.specs.Prelude.{ℕ, Bool, true, false, cond, List}
-use Rattle.registers.specs.Registers.{bitsIn, withDrop, isIdle, faultCode}
+use Rattle.registers.specs.Registers.{bits_in, with_drop, is_idle, fault_code}
 use Rattle.registers.specs.declared.State.{State}
 use Rattle.registers.specs.declared.Wait.{Wait}
 use Rattle.registers.specs.declared.Wait.TheVariants as v
 use Rattle.registers.specs.declared.Event.{Event}
 use Rattle.registers.specs.declared.Event.TheVariants as e
 use Rattle.decisions.specs.Decisions.{Decision, Silent, returns, sends, dropped}
-use Rattle.commands.specs.Commands.{commandOf}
+use Rattle.commands.specs.Commands.{command_of}
 use Rattle.commands.specs.declared.Command.{Command}
-use Rattle.commands.specs.Legality.{legalityOf}
+use Rattle.commands.specs.Legality.{legality_of}
 use Rattle.commands.specs.declared.Legality.{Legality}
 use Rattle.commands.specs.declared.Legality.TheVariants.{Legal, Rejected}
-use Rattle.decisions.specs.Rejections.{rejectedClause}
-use Rattle.decisions.specs.Common.{commonClause}
-use Rattle.decisions.specs.Extended.{extendedClause}
-use Rattle.decisions.specs.I2c.{i2cClause}
-use Rattle.decisions.specs.Spi.{spiClause}
-use Rattle.decisions.specs.OneWire.{oneWireClause}
-use Rattle.decisions.specs.Operands.{operandClause, packetClause, timingsClause}
-use Rattle.decisions.specs.Effects.{Effect, carriedOut}
+use Rattle.decisions.specs.Rejections.{rejected_clause}
+use Rattle.decisions.specs.Common.{common_clause}
+use Rattle.decisions.specs.Extended.{extended_clause}
+use Rattle.decisions.specs.I2c.{i2c_clause}
+use Rattle.decisions.specs.Spi.{spi_clause}
+use Rattle.decisions.specs.OneWire.{one_wire_clause}
+use Rattle.decisions.specs.Operands.{operand_clause, packet_clause, timings_clause}
+use Rattle.decisions.specs.Effects.{Effect, carried_out}
 use Rattle.commands.specs.declared.Command.TheVariants as k
 
 -- A COMMAND where it is legal; what is no command never is
-abbrev pub clauseOf : State → Command → Decision
-clauseOf s (k.Common c) = commonClause s c
-clauseOf s (k.Extended c) = extendedClause s c
-clauseOf s (k.I2c c) = i2cClause c
-clauseOf s (k.Spi c) = spiClause s.page.config s.page.size c
-clauseOf s (k.OneWire c) = oneWireClause c
-clauseOf s k.Unknown = sends Silent
+abbrev pub clause_of : State → Command → Decision
+clause_of s (k.Common c) = common_clause s c
+clause_of s (k.Extended c) = extended_clause s c
+clause_of s (k.I2c c) = i2c_clause c
+clause_of s (k.Spi c) = spi_clause s.page.config s.page.size c
+clause_of s (k.OneWire c) = one_wire_clause c
+clause_of s k.Unknown = sends Silent
 
 -- legal or not
-abbrev pub commandDecided : State → Command → Legality → Decision
-commandDecided s c Legal = clauseOf s c
-commandDecided s c (Rejected code) = rejectedClause c code
+abbrev pub command_decided : State → Command → Legality → Decision
+command_decided s c Legal = clause_of s c
+command_decided s c (Rejected code) = rejected_clause c code
 
-abbrev pub commandDecision : State → Command → Decision
-commandDecision s c = commandDecided s c (legalityOf s.page.flags s.page.configured c)
+abbrev pub command_decision : State → Command → Decision
+command_decision s c = command_decided s c (legality_of s.page.flags s.page.configured c)
 
 -- whether the byte after 1D is waited for; for the contract of the function that asks it
-abbrev pub waitsExtended : Wait → Bool
-waitsExtended v.Nothing = false
-waitsExtended (v.One a) = false
-waitsExtended v.Extended = true
-waitsExtended (v.Packet left exchange) = false
-waitsExtended (v.Timings left) = false
+abbrev pub waits_extended : Wait → Bool
+waits_extended v.Nothing = false
+waits_extended (v.One a) = false
+waits_extended v.Extended = true
+waits_extended (v.Packet left exchange) = false
+waits_extended (v.Timings left) = false
 
 -- A BYTE, by what is waited for; "1D returns 00; the next byte is extended", and "after 1D a bad byte leaves the wait (H)"
-abbrev pub byteDecision : State → Wait → ℕ → Decision
-byteDecision s v.Nothing x = commandDecision s (commandOf false x)
-byteDecision s (v.One a) x = operandClause s.page a x
-byteDecision s v.Extended x = commandDecision s (commandOf true x)
-byteDecision s (v.Packet left exchange) x = packetClause (bitsIn s.page) left exchange x
-byteDecision s (v.Timings left) x = timingsClause left x
+abbrev pub byte_decision : State → Wait → ℕ → Decision
+byte_decision s v.Nothing x = command_decision s (command_of false x)
+byte_decision s (v.One a) x = operand_clause s.page a x
+byte_decision s v.Extended x = command_decision s (command_of true x)
+byte_decision s (v.Packet left exchange) x = packet_clause (bits_in s.page) left exchange x
+byte_decision s (v.Timings left) x = timings_clause left x
 
 -- AN EVENT; "A fault returns its code; the byte it came with is lost, any wait stays." A byte is dropped where a drop is pending.
-abbrev pub decisionOf : State → Event → Decision
-decisionOf s (e.Byte x) = cond s.drop dropped (byteDecision s s.wait x)
-decisionOf s (e.Fault f) = returns (faultCode f)
+abbrev pub decision_of : State → Event → Decision
+decision_of s (e.Byte x) = cond s.drop dropped (byte_decision s s.wait x)
+decision_of s (e.Fault f) = returns (fault_code f)
 
 -- WHETHER A DROP IS PENDING AFTER IT (02, Ask 2): "Between commands .. a fault also makes the bridge drop the next good byte without a
 -- code. .. Inside an item the rule of 01 stays"; a byte ends the drop
-abbrev pub dropAfter : Wait → Event → Bool
-dropAfter w (e.Byte x) = false
-dropAfter w (e.Fault f) = isIdle w
+abbrev pub drop_after : Wait → Event → Bool
+drop_after w (e.Byte x) = false
+drop_after w (e.Fault f) = is_idle w
 
-abbrev pub dropMarked : State → Event → State
-dropMarked s ev = withDrop s (dropAfter s.wait ev)
+abbrev pub drop_marked : State → Event → State
+drop_marked s ev = with_drop s (drop_after s.wait ev)
 
 -- with the samples from place m on
 unfoldable pub effect_of : State → Event → List ℕ → ℕ → Effect
-effect_of s ev ss m = carriedOut (dropMarked s ev) (decisionOf s ev) ss m
+effect_of s ev ss m = carried_out (drop_marked s ev) (decision_of s ev) ss m

@@ -8,10 +8,10 @@ use Rattle.decisions.specs.declared.Change.TheVariants as c
 use Rattle.commands.specs.declared.I2cCommand.{I2cCommand}
 use Rattle.commands.specs.declared.I2cCommand.TheVariants as k
 
-abbrev pub i2cClause : I2cCommand → Decision
-i2cClause k.SendStart = performs w.Start
-i2cClause k.SendStop = performs w.Stop
-i2cClause k.SendByte = awaits (v.One o.ToI2c)
-i2cClause (k.ReadByte answer) = decision c.Nothing (w.ReadI2c answer) SendsSample
-i2cClause (k.DriveCs verb) = performs (w.Line verb cs)
-i2cClause k.ReadCs = decision c.Nothing (w.SampleLine cs) SendsLevel
+abbrev pub i2c_clause : I2cCommand → Decision
+i2c_clause k.SendStart = performs w.Start
+i2c_clause k.SendStop = performs w.Stop
+i2c_clause k.SendByte = awaits (v.One o.ToI2c)
+i2c_clause (k.ReadByte answer) = decision c.Nothing (w.ReadI2c answer) SendsSample
+i2c_clause (k.DriveCs verb) = performs (w.Line verb cs)
+i2c_clause k.ReadCs = decision c.Nothing (w.SampleLine cs) SendsLevel

@@ -7,26 +7,26 @@ use Rattle.commands.specs.declared.SpiCommand.{SpiCommand}
 use Rattle.commands.specs.declared.SpiCommand.TheVariants as p
 use Rattle.decisions.specs.Decisions.{Decision, Returns, ReturnsAndSends, sends}
 
-abbrev pub spiReadsConfiguration : SpiCommand → Bool
-spiReadsConfiguration p.LoadConfig = false
-spiReadsConfiguration p.ReadConfig = true
-spiReadsConfiguration p.LoadSize = false
-spiReadsConfiguration p.ReadSize = false
-spiReadsConfiguration (p.LoadPacket exchange) = false
-spiReadsConfiguration p.ReadPacket = false
-spiReadsConfiguration p.StartExchange = false
-spiReadsConfiguration (p.DriveSs verb) = false
-spiReadsConfiguration p.ReadSs = false
-spiReadsConfiguration p.ReadLow = false
-spiReadsConfiguration p.ExchangeAndRead = false
+abbrev pub spi_reads_configuration : SpiCommand → Bool
+spi_reads_configuration p.LoadConfig = false
+spi_reads_configuration p.ReadConfig = true
+spi_reads_configuration p.LoadSize = false
+spi_reads_configuration p.ReadSize = false
+spi_reads_configuration (p.LoadPacket exchange) = false
+spi_reads_configuration p.ReadPacket = false
+spi_reads_configuration p.StartExchange = false
+spi_reads_configuration (p.DriveSs verb) = false
+spi_reads_configuration p.ReadSs = false
+spi_reads_configuration p.ReadLow = false
+spi_reads_configuration p.ExchangeAndRead = false
 
-abbrev pub readsConfiguration : Command → Bool
-readsConfiguration (k.Common c) = false
-readsConfiguration (k.Extended c) = false
-readsConfiguration (k.I2c c) = false
-readsConfiguration (k.Spi c) = spiReadsConfiguration c
-readsConfiguration (k.OneWire c) = false
-readsConfiguration k.Unknown = false
+abbrev pub reads_configuration : Command → Bool
+reads_configuration (k.Common c) = false
+reads_configuration (k.Extended c) = false
+reads_configuration (k.I2c c) = false
+reads_configuration (k.Spi c) = spi_reads_configuration c
+reads_configuration (k.OneWire c) = false
+reads_configuration k.Unknown = false
 
-abbrev pub rejectedClause : Command → ℕ → Decision
-rejectedClause c code = cond (eqb code 0x40 && readsConfiguration c) (sends (ReturnsAndSends code)) (sends (Returns code))
+abbrev pub rejected_clause : Command → ℕ → Decision
+rejected_clause c code = cond (eqb code 0x40 && reads_configuration c) (sends (ReturnsAndSends code)) (sends (Returns code))

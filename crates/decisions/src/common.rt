@@ -1,6 +1,6 @@
 // The clauses of the common commands.
 ghost use Rattle.std.specs.Prelude.{◌≡◌, ◌≤◌, ◌<◌};
-ghost use Rattle.decisions.specs.Common.{selects, flagged, commonClause};
+ghost use Rattle.decisions.specs.Common.{selects, flagged, common_clause};
 
 use crate::kinds::{awaiting, deciding, sending};
 use crate::{Answer, Change, Decision};
@@ -33,7 +33,7 @@ fn set_flag(flags: u8, bit: Bit, on: bool) -> Decision
 
 // 1C: PD4 latched, the IOG cycles waited, PD3 latched.
 fn set_iog(s: State) -> Decision
-    ensures { result ≡ commonClause s CommonCommand.SetIog }
+    ensures { result ≡ common_clause s CommonCommand.SetIog }
 {
     let first = with_bit(Bit::Four, true, s.page.portd);
     let last = with_bit(Bit::Three, true, first);
@@ -50,7 +50,7 @@ fn set_iog(s: State) -> Decision
 
 // What a common command decides.
 pub(crate) fn clause(s: State, c: CommonCommand) -> Decision
-    ensures { result ≡ commonClause s c }
+    ensures { result ≡ common_clause s c }
 {
     let kept = kept_flags(s.page.flags);
     match c {

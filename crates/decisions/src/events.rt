@@ -2,9 +2,9 @@
 ghost use Rattle.std.specs.Prelude.{◌≡◌, cond, ◌<◌};
 ghost use Rattle.packet.specs.Packet.{width};
 ghost use Rattle.registers.specs.Ranges.{InRange};
-ghost use Rattle.commands.specs.Commands.{commandOf};
+ghost use Rattle.commands.specs.Commands.{command_of};
 ghost use Rattle.decisions.specs.Decisions.{dropped};
-ghost use Rattle.decisions.specs.Events.{clauseOf, commandDecision, waitsExtended, byteDecision};
+ghost use Rattle.decisions.specs.Events.{clause_of, command_decision, waits_extended, byte_decision};
 
 use crate::kinds::{dropping, returning, sending};
 use crate::rejections::rejected;
@@ -17,7 +17,7 @@ use registers::{State, Wait};
 // What a legal command decides. The caller shows that the size register is in range.
 fn clause_of(s: State, c: Command) -> Decision
     requires { s.page.size < width }
-    ensures { result ≡ clauseOf s c }
+    ensures { result ≡ clause_of s c }
 {
     match c {
         Command::Common(k) => common::clause(s, k),
@@ -32,7 +32,7 @@ fn clause_of(s: State, c: Command) -> Decision
 // A byte between commands or after 1D.
 fn command(s: State, extended: bool, b: u8) -> Decision
     requires { s.page.size < width }
-    ensures { result ≡ commandDecision s (commandOf extended b) }
+    ensures { result ≡ command_decision s (command_of extended b) }
 {
     let c = command_of(extended, b);
     // asked before legality, which rejects it on every page, since three codes at one return cost each legal command instructions
@@ -48,7 +48,7 @@ fn command(s: State, extended: bool, b: u8) -> Decision
 
 // Whether the byte after 1D is waited for.
 fn waits_extended(w: Wait) -> bool
-    ensures { result ≡ waitsExtended w }
+    ensures { result ≡ waits_extended w }
 {
     match w {
         Wait::Nothing => false,
@@ -65,7 +65,7 @@ fn waits_extended(w: Wait) -> bool
 // A byte, dropped or by what is waited for. The caller shows that the state breaks no range.
 pub(crate) fn byte(s: State, x: u8) -> Decision
     requires { InRange s }
-    ensures { result ≡ cond s.drop dropped (byteDecision s s.wait x) }
+    ensures { result ≡ cond s.drop dropped (byte_decision s s.wait x) }
 {
     if s.drop {
         return dropping();

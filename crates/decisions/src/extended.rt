@@ -1,6 +1,6 @@
 // The clauses of the extended commands, after 1D.
 ghost use Rattle.std.specs.Prelude.{◌≡◌};
-ghost use Rattle.decisions.specs.Extended.{extendedClause};
+ghost use Rattle.decisions.specs.Extended.{extended_clause};
 
 use crate::kinds::{awaiting, ending, storing};
 use crate::{Answer, Decision};
@@ -12,7 +12,7 @@ use signals::Waveform;
 
 // 01, 02, 03, 08, 09: a bit of a latch to a level, a wait, and back.
 fn pulse(s: State, latch: PortRegister, bit: Bit, level: bool, unit: u8, wait: u8) -> Decision
-    ensures { result ≡ extendedClause s (ExtendedCommand.Pulse latch bit level unit wait) }
+    ensures { result ≡ extended_clause s (ExtendedCommand.Pulse latch bit level unit wait) }
 {
     let page = s.page;
     let first = with_bit(bit, level, port_register(page, latch));
@@ -30,7 +30,7 @@ fn pulse(s: State, latch: PortRegister, bit: Bit, level: bool, unit: u8, wait: u
 
 // 0A to 0D: a bit of a port register set or cleared, with one action.
 fn set_bit(s: State, r: PortRegister, bit: Bit, on: bool) -> Decision
-    ensures { result ≡ extendedClause s (ExtendedCommand.SetBit r bit on) }
+    ensures { result ≡ extended_clause s (ExtendedCommand.SetBit r bit on) }
 {
     let page = s.page;
     let value = with_bit(bit, on, port_register(page, r));
@@ -42,7 +42,7 @@ fn set_bit(s: State, r: PortRegister, bit: Bit, on: bool) -> Decision
 
 // What an extended command decides.
 pub(crate) fn clause(s: State, c: ExtendedCommand) -> Decision
-    ensures { result ≡ extendedClause s c }
+    ensures { result ≡ extended_clause s c }
 {
     match c {
         ExtendedCommand::Pulse(r, bit, level, unit, n) => pulse(s, r, bit, level, unit, n),

@@ -1,6 +1,6 @@
 // The clauses of I2C's commands.
 ghost use Rattle.std.specs.Prelude.{◌≡◌};
-ghost use Rattle.decisions.specs.I2c.{i2cClause};
+ghost use Rattle.decisions.specs.I2c.{i2c_clause};
 
 use crate::kinds::{awaiting, deciding, performing};
 use crate::{Answer, Change, Decision};
@@ -10,7 +10,7 @@ use signals::Waveform;
 
 // What an I2C command decides.
 pub(crate) fn clause(c: I2cCommand) -> Decision
-    ensures { result ≡ i2cClause c }
+    ensures { result ≡ i2c_clause c }
 {
     match c {
         I2cCommand::SendStart => performing(Waveform::Start),

@@ -1,7 +1,7 @@
 // What an event decides: what it changes, which waveform it makes, and what it answers.
 ghost use Rattle.std.specs.Prelude.{◌≡◌};
 ghost use Rattle.registers.specs.Ranges.{InRange};
-ghost use Rattle.decisions.specs.Events.{decisionOf, dropAfter};
+ghost use Rattle.decisions.specs.Events.{decision_of, drop_after};
 
 mod common;
 mod events;
@@ -69,7 +69,7 @@ pub struct Decision {
 // What an event decides, before any sample is read. The caller shows that the state breaks no range.
 pub fn decision_of(s: State, e: Event) -> Decision
     requires { InRange s }
-    ensures { result ≡ decisionOf s e }
+    ensures { result ≡ decision_of s e }
 {
     match e {
         Event::Byte(x) => events::byte(s, x),
@@ -79,7 +79,7 @@ pub fn decision_of(s: State, e: Event) -> Decision
 
 // Whether a drop is pending after an event: a line fault between commands leaves one, and a byte ends it.
 pub fn drop_after(s: State, e: Event) -> bool
-    ensures { result ≡ dropAfter s.wait e }
+    ensures { result ≡ drop_after s.wait e }
 {
     let w = s.wait;
     match e {

@@ -1,6 +1,6 @@
 // The clauses of 1-Wire's commands.
 ghost use Rattle.std.specs.Prelude.{◌≡◌};
-ghost use Rattle.decisions.specs.OneWire.{oneWireClause};
+ghost use Rattle.decisions.specs.OneWire.{one_wire_clause};
 
 use crate::kinds::{awaiting, deciding, performing, sending};
 use crate::{Answer, Change, Decision};
@@ -10,7 +10,7 @@ use signals::Waveform;
 
 // What a 1-Wire command decides.
 pub(crate) fn clause(c: OneWireCommand) -> Decision
-    ensures { result ≡ oneWireClause c }
+    ensures { result ≡ one_wire_clause c }
 {
     match c {
         OneWireCommand::SendReset => deciding(

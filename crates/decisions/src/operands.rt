@@ -1,6 +1,6 @@
 // The operand that was waited for: what it decides.
 ghost use Rattle.std.specs.Prelude.{◌≡◌};
-ghost use Rattle.decisions.specs.Operands.{portClause, operandClause};
+ghost use Rattle.decisions.specs.Operands.{port_clause, operand_clause};
 
 use crate::kinds::{deciding, ending, storing};
 use crate::{Answer, Change, Decision};
@@ -9,7 +9,7 @@ use signals::Waveform;
 
 // An operand written to a port register: protected bits keep their old bits.
 fn write_port(s: State, r: PortRegister, x: u8) -> Decision
-    ensures { result ≡ portClause s.page r x }
+    ensures { result ≡ port_clause s.page r x }
 {
     let page = s.page;
     let value = registers::ports::protect(r, registers::ports::port_register(page, r), x);
@@ -25,7 +25,7 @@ fn write_port(s: State, r: PortRegister, x: u8) -> Decision
 
 // What an operand decides, by what it goes to.
 pub(crate) fn clause(s: State, o: Operand, x: u8) -> Decision
-    ensures { result ≡ operandClause s.page o x }
+    ensures { result ≡ operand_clause s.page o x }
 {
     match o {
         Operand::ToPort(r) => write_port(s, r, x),

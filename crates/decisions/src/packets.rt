@@ -1,8 +1,8 @@
 // Packet bytes: what each decides.
 ghost use Rattle.std.specs.Prelude.{◌≡◌, ◌≤◌};
-ghost use Rattle.packet.specs.Packet.{packetBytes};
+ghost use Rattle.packet.specs.Packet.{packet_bytes};
 ghost use Rattle.registers.specs.Registers.{bits_of};
-ghost use Rattle.decisions.specs.Operands.{packetClause};
+ghost use Rattle.decisions.specs.Operands.{packet_clause};
 
 use crate::kinds::deciding;
 use crate::{Answer, Change, Decision};
@@ -12,8 +12,8 @@ use signals::Waveform;
 
 // A packet byte, with so many to come, itself among them.
 pub(crate) fn packet_byte(size: u8, left: u8, exchange: bool, x: u8) -> Decision
-    requires { (1 ≤ left) × (left ≤ packetBytes (bits_of size)) }
-    ensures { result ≡ packetClause (bits_of size) left exchange x }
+    requires { (1 ≤ left) × (left ≤ packet_bytes (bits_of size)) }
+    ensures { result ≡ packet_clause (bits_of size) left exchange x }
 {
     let at = packet_bytes(size) - left;
     if left == 1 {

@@ -1,6 +1,6 @@
 // What a rejected command decides.
 ghost use Rattle.std.specs.Prelude.{◌≡◌};
-ghost use Rattle.decisions.specs.Rejections.{readsConfiguration, spiReadsConfiguration, rejectedClause};
+ghost use Rattle.decisions.specs.Rejections.{reads_configuration, spi_reads_configuration, rejected_clause};
 
 use crate::kinds::{returning, sending};
 use crate::{Answer, Decision};
@@ -8,7 +8,7 @@ use commands::{Command, SpiCommand};
 
 // 41.
 fn spi_reads_configuration(c: SpiCommand) -> bool
-    ensures { result ≡ spiReadsConfiguration c }
+    ensures { result ≡ spi_reads_configuration c }
 {
     match c {
         SpiCommand::LoadConfig => false,
@@ -27,7 +27,7 @@ fn spi_reads_configuration(c: SpiCommand) -> bool
 
 // Whether a command is 41, which sends its 40 whatever the reports.
 fn reads_configuration(c: Command) -> bool
-    ensures { result ≡ readsConfiguration c }
+    ensures { result ≡ reads_configuration c }
 {
     match c {
         Command::Common(_) => false,
@@ -41,7 +41,7 @@ fn reads_configuration(c: Command) -> bool
 
 // What a rejected command decides: its code returned, and by 41 unconfigured sent too.
 pub(crate) fn rejected(c: Command, code: u8) -> Decision
-    ensures { result ≡ rejectedClause c code }
+    ensures { result ≡ rejected_clause c code }
 {
     if (code == codes::NO_CONFIGURATION) & reads_configuration(c) {
         return sending(Answer::ReturnsAndSends(code));

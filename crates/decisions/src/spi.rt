@@ -1,7 +1,7 @@
 // The clauses of SPI's commands.
 ghost use Rattle.std.specs.Prelude.{◌≡◌, ◌<◌};
 ghost use Rattle.packet.specs.Packet.{width};
-ghost use Rattle.decisions.specs.Spi.{spiClause};
+ghost use Rattle.decisions.specs.Spi.{spi_clause};
 
 use crate::kinds::{awaiting, deciding, performing, sending};
 use crate::{Answer, Change, Decision};
@@ -13,7 +13,7 @@ use signals::Waveform;
 // What an SPI command decides. The caller shows that the size register is in range.
 pub(crate) fn clause(config: u8, size: u8, c: SpiCommand) -> Decision
     requires { size < width }
-    ensures { result ≡ spiClause config size c }
+    ensures { result ≡ spi_clause config size c }
 {
     match c {
         SpiCommand::LoadConfig => awaiting(Wait::One(Operand::ToConfig)),

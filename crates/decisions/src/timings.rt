@@ -1,7 +1,7 @@
 // Timing bytes: what each decides.
 ghost use Rattle.std.specs.Prelude.{◌≡◌, ◌≤◌};
-ghost use Rattle.registers.specs.Registers.{timingBytes};
-ghost use Rattle.decisions.specs.Operands.{timingsClause};
+ghost use Rattle.registers.specs.Registers.{timing_bytes};
+ghost use Rattle.decisions.specs.Operands.{timings_clause};
 
 use crate::kinds::deciding;
 use crate::{Answer, Change, Decision};
@@ -10,8 +10,8 @@ use signals::Waveform;
 
 // A timing byte, with so many to come, itself among them; all are stored at the last.
 pub(crate) fn timing_byte(left: u8, x: u8) -> Decision
-    requires { (1 ≤ left) × (left ≤ timingBytes) }
-    ensures { result ≡ timingsClause left x }
+    requires { (1 ≤ left) × (left ≤ timing_bytes) }
+    ensures { result ≡ timings_clause left x }
 {
     let at = registers::TIMINGS as u8 - left;
     if left == 1 {

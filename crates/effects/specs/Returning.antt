@@ -7,11 +7,11 @@ use Rattle.decisions.specs.declared.Answer.{Answer}
 pub use Rattle.effects.specs.declared.Returned.{Returned}
 pub use Rattle.effects.specs.declared.Returned.TheVariants.{Nothing, One, Two}
 
-abbrev pub codesIn : Returned → List ℕ
-codesIn Nothing = []
-codesIn (One a) = a ∷ []
-codesIn (Two a b) = a ∷ b ∷ []
+abbrev pub codes_in : Returned → List ℕ
+codes_in Nothing = []
+codes_in (One a) = a ∷ []
+codes_in (Two a b) = a ∷ b ∷ []
 
 -- for the contract of `returned`: the codes of an answer where the samples gave x, whatever the state holds
 abbrev pub ReturnedBy : Answer → ℕ → Returned → Type 0
-ReturnedBy a x r = (s : State) → codesIn r ≡ codes_of (said_of s x a)
+ReturnedBy a x r = (s : State) → codes_in r ≡ codes_of (said_of s x a)

@@ -1,8 +1,8 @@
 // What an answer leaves in ERROR and sends.
 ghost use Rattle.std.specs.Prelude.{◌≡◌, cond, eqb, [], ◌∷◌, map};
-ghost use Rattle.decisions.specs.Said.{returned, sent, returnedAndSent};
+ghost use Rattle.decisions.specs.Said.{returned, sent, returned_and_sent};
 ghost use Rattle.decisions.specs.Effects.{said_of};
-ghost use Rattle.effects.specs.Replies.{replyBytes, response, responseOf};
+ghost use Rattle.effects.specs.Replies.{reply_bytes, response, response_of};
 
 use crate::returning::checked;
 use crate::{Reply, Responded};
@@ -12,14 +12,14 @@ use registers::parts::reports_on;
 
 // Data sent: ERROR stays.
 fn send(s: State, reply: Reply) -> Responded
-    ensures { response result.state (replyBytes result.state result.reply) ≡ responseOf s (map sent (replyBytes s reply)) }
+    ensures { response result.state (reply_bytes result.state result.reply) ≡ response_of s (map sent (reply_bytes s reply)) }
 {
     Responded { state: s, reply }
 }
 
 // A code returned: stored, and sent with reports on.
 fn store(mut s: State, code: u8) -> Responded
-    ensures { response result.state (replyBytes result.state result.reply) ≡ responseOf s (returned code ∷ []) }
+    ensures { response result.state (reply_bytes result.state result.reply) ≡ response_of s (returned code ∷ []) }
 {
     s.page.error = code;
     if reports_on(s.page.flags) {
@@ -36,7 +36,7 @@ fn store(mut s: State, code: u8) -> Responded
 
 // The codes of a load and of its exchange.
 fn store_twice(mut s: State) -> Responded
-    ensures { response result.state (replyBytes result.state result.reply) ≡ responseOf s (returned 0 ∷ returned 0 ∷ []) }
+    ensures { response result.state (reply_bytes result.state result.reply) ≡ response_of s (returned 0 ∷ returned 0 ∷ []) }
 {
     s.page.error = codes::NO_ERROR;
     if reports_on(s.page.flags) {
@@ -53,7 +53,7 @@ fn store_twice(mut s: State) -> Responded
 
 // A code returned and sent whatever the reports.
 fn store_and_send(mut s: State, code: u8) -> Responded
-    ensures { response result.state (replyBytes result.state result.reply) ≡ responseOf s (returnedAndSent code ∷ []) }
+    ensures { response result.state (reply_bytes result.state result.reply) ≡ response_of s (returned_and_sent code ∷ []) }
 {
     s.page.error = code;
     Responded {
@@ -64,7 +64,7 @@ fn store_and_send(mut s: State, code: u8) -> Responded
 
 // The code of an exchange, and then the low bytes of the packet register.
 fn store_then_low(mut s: State, x: u8) -> Responded
-    ensures { response result.state (replyBytes result.state result.reply) ≡ responseOf s (said_of s x Answer.ReturnsThenLow) }
+    ensures { response result.state (reply_bytes result.state result.reply) ≡ response_of s (said_of s x Answer.ReturnsThenLow) }
 {
     s.page.error = codes::NO_ERROR;
     if reports_on(s.page.flags) {
@@ -81,7 +81,7 @@ fn store_then_low(mut s: State, x: u8) -> Responded
 
 // What the sample is checked for: 00 for a low one, else a code.
 fn check(s: State, x: u8, code: u8) -> Responded
-    ensures { response result.state (replyBytes result.state result.reply) ≡ responseOf s (said_of s x (Answer.Checked code)) }
+    ensures { response result.state (reply_bytes result.state result.reply) ≡ response_of s (said_of s x (Answer.Checked code)) }
 {
     store(s, checked(x, code))
 }
@@ -95,7 +95,7 @@ fn level_byte(x: u8) -> u8
 
 // What an answer leaves and sends, where the samples gave x.
 pub fn respond(s: State, answer: Answer, x: u8) -> Responded
-    ensures { response result.state (replyBytes result.state result.reply) ≡ responseOf s (said_of s x answer) }
+    ensures { response result.state (reply_bytes result.state result.reply) ≡ response_of s (said_of s x answer) }
 {
     match answer {
         Answer::Silent => send(s, Reply::Empty),

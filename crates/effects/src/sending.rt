@@ -2,7 +2,7 @@
 ghost use Rattle.std.specs.Prelude.{◌≡◌, ◌<◌, ◌≤◌, length};
 ghost use Rattle.packet.specs.Packet.{width};
 ghost use Rattle.wire.specs.Buffer.{Written};
-ghost use Rattle.effects.specs.Replies.{replyBytes};
+ghost use Rattle.effects.specs.Replies.{reply_bytes};
 
 use crate::Reply;
 use registers::State;
@@ -31,7 +31,7 @@ fn packet_size(r: packet::Register) -> usize
 // How many bytes a reply is. The caller shows that the size register is in range.
 pub fn reply_size(s: State, reply: Reply) -> usize
     requires { s.page.size < width }
-    ensures { result ≡ length (replyBytes s reply) }
+    ensures { result ≡ length (reply_bytes s reply) }
 {
     let bits = bits_of(s.page.size);
     match reply {
@@ -84,8 +84,8 @@ fn put_packet(out: &mut [u8], r: packet::Register) -> usize
 // Writes a reply at the start of the unused part of a lent buffer, and answers how many bytes it is. The caller shows that the
 // size register is in range and that it fits.
 pub fn put_reply(out: &mut [u8], s: State, reply: Reply) -> usize
-    requires { (s.page.size < width) × (length (replyBytes s reply) ≤ length out.old) }
-    ensures { Written out.old 0 (replyBytes s reply) out.new result }
+    requires { (s.page.size < width) × (length (reply_bytes s reply) ≤ length out.old) }
+    ensures { Written out.old 0 (reply_bytes s reply) out.new result }
 {
     let bits = bits_of(s.page.size);
     match reply {

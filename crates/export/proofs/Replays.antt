@@ -9,46 +9,46 @@ use lib.ListN.{length}
 use Rattle.wire.specs.Buffer.{overwrite}
 use Rattle.session.specs.declared.replay.Cursor.{Cursor}
 use Rattle.session.specs.declared.replay.Ran.{Ran}
-use Rattle.session.specs.Runs.{steps_of, allSteps, Runs}
-use Rattle.state_bytes.specs.StateBytes.{stateIn, isState}
+use Rattle.session.specs.Runs.{steps_of, all_steps, Runs}
+use Rattle.state_bytes.specs.StateBytes.{state_in, is_state}
 use Rattle.state_bytes.specs.Parts.{Stored}
 use Rattle.refusals.specs.Refusals.{number_of}
 use Rattle.refusals.specs.declared.Refusal.TheVariants.{Ranges}
-use Rattle.export.specs.Replaying.{CCursor, cCursor, cCursorOf, cursorOf, replayCall, replayed, replayGives, Replays}
-use Rattle.state_bytes.proofs.Back.{state-back}
+use Rattle.export.specs.Replaying.{CCursor, c_cursor, c_cursor_of, cursor_of, replay_call, replayed, replay_gives, Replays}
+use Rattle.state_bytes.proofs.Back.{state_back}
 
-mark-is : (b : Bool) → b ≡ not (eqb (cond b 1 0) 0)
-mark-is true = refl
-mark-is false = refl
+mark_is : (b : Bool) → b ≡ not (eqb (cond b 1 0) 0)
+mark_is true = refl
+mark_is false = refl
 
 module _ (session : List ℕ) (h : CCursor) (o : List ℕ) where
-  pub replay-refused : isState h.state ≡ false → {n : ℕ} → n ≡ number_of Ranges → Replays session h o (replayCall n h o 0)
-  unfolding replayGives
-  replay-refused e en = record { gives = rw (e, en); held = λ t. absurd (false≢true (sym e ∙ t)) }
+  pub replay_refused : is_state h.state ≡ false → {n : ℕ} → n ≡ number_of Ranges → Replays session h o (replay_call n h o 0)
+  unfolding replay_gives
+  replay_refused e en = record { gives = rw (e, en); held = λ t. absurd (false≢true (sym e ∙ t)) }
 
   -- r is where the run got to, state and m what is stored of it
   module _ (r : Ran) {state : List ℕ} (st : Stored r.cursor.bridge.state state) {m : ℕ} (em : m ≡ cond r.cursor.done 1 0) where
     abbrev left : CCursor
-    left = cCursor state r.cursor.at r.cursor.end r.cursor.sample r.cursor.sampled m
+    left = c_cursor state r.cursor.at r.cursor.end r.cursor.sample r.cursor.sampled m
 
-    left-cursor : cursorOf left ≡ r.cursor
-    left-cursor =
-        let t : stateIn state ≡ r.cursor.bridge.state = ap stateIn st.bytes ∙ (state-back r.cursor.bridge.state st.sized).1 in
-        let d : not (eqb m 0) ≡ r.cursor.done = sym (mark-is r.cursor.done ∙ ap (λ (k : ℕ). not (eqb k 0)) (sym em)) in
+    left_cursor : cursor_of left ≡ r.cursor
+    left_cursor =
+        let t : state_in state ≡ r.cursor.bridge.state = ap state_in st.bytes ∙ (state_back r.cursor.bridge.state st.sized).1 in
+        let d : not (eqb m 0) ≡ r.cursor.done = sym (mark_is r.cursor.done ∙ ap (λ (k : ℕ). not (eqb k 0)) (sym em)) in
         λ k. record { bridge = record { state = t k }; at = r.cursor.at; end = r.cursor.end; sample = r.cursor.sample; sampled = r.cursor.sampled; done = d k }
 
-    pub replay-taken : isState h.state ≡ true → {c : Cursor} → c ≡ cursorOf h → {x : List ℕ} → Runs allSteps session c o x r → Replays session h o (replayCall 0 left x r.written)
-    unfolding replayGives
-    replay-taken e {c} ec {x} runs =
-        let t = steps_of allSteps session (length o) in
+    pub replay_taken : is_state h.state ≡ true → {c : Cursor} → c ≡ cursor_of h → {x : List ℕ} → Runs all_steps session c o x r → Replays session h o (replay_call 0 left x r.written)
+    unfolding replay_gives
+    replay_taken e {c} ec {x} runs =
+        let t = steps_of all_steps session (length o) in
         record {
           gives =
-              (λ k. replayCall 0 (cCursor (st.bytes k) r.cursor.at r.cursor.end r.cursor.sample r.cursor.sampled (em k)) (runs.made.wrote.bytes k) (runs.made.wrote.after k))
-              ∙ (λ k. replayCall 0 (cCursorOf (runs.made.next k)) (overwrite o 0 (t c).bytes) (zero-add (length (t c).bytes) k))
+              (λ k. replay_call 0 (c_cursor (st.bytes k) r.cursor.at r.cursor.end r.cursor.sample r.cursor.sampled (em k)) (runs.made.wrote.bytes k) (runs.made.wrote.after k))
+              ∙ (λ k. replay_call 0 (c_cursor_of (runs.made.next k)) (overwrite o 0 (t c).bytes) (zero-add (length (t c).bytes) k))
               ∙ ap (λ (d : Cursor). replayed o (t d)) ec
               ∙ rw e;
           held = λ _. (
-            ap isState st.bytes ∙ (state-back r.cursor.bridge.state st.sized).0,
-            left-cursor ∙ runs.made.next ∙ ap (λ (d : Cursor). (t d).next) ec,
+            ap is_state st.bytes ∙ (state_back r.cursor.bridge.state st.sized).0,
+            left_cursor ∙ runs.made.next ∙ ap (λ (d : Cursor). (t d).next) ec,
           );
         }

@@ -3,11 +3,11 @@
 use Rattle.std.specs.Prelude.{ℕ, ◌≡◌, true, cond, not, List, eqb, length}
 use Rattle.wire.specs.Buffer.{overwrite}
 use Rattle.session.specs.declared.replay.Cursor.{Cursor}
-use Rattle.session.specs.Runs.{Steps, steps_of, allSteps}
-use Rattle.state_bytes.specs.StateBytes.{stateBytes, isState}
+use Rattle.session.specs.Runs.{Steps, steps_of, all_steps}
+use Rattle.state_bytes.specs.StateBytes.{state_bytes, is_state}
 use Rattle.refusals.specs.Refusals.{number_of}
 use Rattle.refusals.specs.declared.Refusal.TheVariants.{Ranges}
-use Rattle.export.specs.Exported.{bridgeIn}
+use Rattle.export.specs.Exported.{bridge_in}
 
 -- the cursor as C holds it: "the state and five numbers"
 pub record CCursor : Type 0 where
@@ -18,16 +18,16 @@ pub record CCursor : Type 0 where
   pub sampled : ℕ
   pub done : ℕ
 
-abbrev pub cCursor : List ℕ → ℕ → ℕ → ℕ → ℕ → ℕ → CCursor
-cCursor state at end sample sampled done = record { state = state; at = at; end = end; sample = sample; sampled = sampled; done = done }
+abbrev pub c_cursor : List ℕ → ℕ → ℕ → ℕ → ℕ → ℕ → CCursor
+c_cursor state at end sample sampled done = record { state = state; at = at; end = end; sample = sample; sampled = sampled; done = done }
 
 -- "the replay is over when `done` is not 0"
-abbrev pub cursorOf : CCursor → Cursor
-cursorOf h = record { bridge = bridgeIn h.state; at = h.at; end = h.end; sample = h.sample; sampled = h.sampled; done = not (eqb h.done 0) }
+abbrev pub cursor_of : CCursor → Cursor
+cursor_of h = record { bridge = bridge_in h.state; at = h.at; end = h.end; sample = h.sample; sampled = h.sampled; done = not (eqb h.done 0) }
 
 -- .. and as it is handed back
-abbrev pub cCursorOf : Cursor → CCursor
-cCursorOf c = cCursor (stateBytes c.bridge.state) c.at c.end c.sample c.sampled (cond c.done 1 0)
+abbrev pub c_cursor_of : Cursor → CCursor
+c_cursor_of c = c_cursor (state_bytes c.bridge.state) c.at c.end c.sample c.sampled (cond c.done 1 0)
 
 -- a call's number, the cursor and the output that it leaves, and how many bytes were written
 pub record ReplayCall : Type 0 where
@@ -36,17 +36,17 @@ pub record ReplayCall : Type 0 where
   pub output : List ℕ
   pub written : ℕ
 
-abbrev pub replayCall : ℕ → CCursor → List ℕ → ℕ → ReplayCall
-replayCall n h x w = record { number = n; cursor = h; output = x; written = w }
+abbrev pub replay_call : ℕ → CCursor → List ℕ → ℕ → ReplayCall
+replay_call n h x w = record { number = n; cursor = h; output = x; written = w }
 
 -- BRIDGE_REPLAY on a session from a cursor h, with an output that held o: "1 if `state` is no state", else a run
 abbrev pub replayed : List ℕ → Steps → ReplayCall
-replayed o t = replayCall 0 (cCursorOf t.next) (overwrite o 0 t.bytes) (length t.bytes)
+replayed o t = replay_call 0 (c_cursor_of t.next) (overwrite o 0 t.bytes) (length t.bytes)
 
-unfoldable pub replayGives : List ℕ → CCursor → List ℕ → ReplayCall
-replayGives session h o = cond (isState h.state) (replayed o (steps_of allSteps session (length o) (cursorOf h))) (replayCall (number_of Ranges) h o 0)
+unfoldable pub replay_gives : List ℕ → CCursor → List ℕ → ReplayCall
+replay_gives session h o = cond (is_state h.state) (replayed o (steps_of all_steps session (length o) (cursor_of h))) (replay_call (number_of Ranges) h o 0)
 
 -- .. and what is handed back of the run's cursor is that cursor, so that the next call goes on from it
 pub record Replays (session : List ℕ) (h : CCursor) (o : List ℕ) (r : ReplayCall) : Type 0 where
-  pub gives : r ≡ replayGives session h o
-  pub held : isState h.state ≡ true → (isState r.cursor.state ≡ true) × (cursorOf r.cursor ≡ (steps_of allSteps session (length o) (cursorOf h)).next)
+  pub gives : r ≡ replay_gives session h o
+  pub held : is_state h.state ≡ true → (is_state r.cursor.state ≡ true) × (cursor_of r.cursor ≡ (steps_of all_steps session (length o) (cursor_of h)).next)

@@ -1,7 +1,7 @@
 // What C gets: the number of an answer, and the new state.
 ghost use Rattle.std.specs.Prelude.{◌≡◌, length};
-ghost use Rattle.state_bytes.specs.StateBytes.{stateSize};
-ghost use Rattle.export.specs.Exported.{outcomeNumber, stateAfter, verdictNumber, place_of, code_in, switchNumber};
+ghost use Rattle.state_bytes.specs.StateBytes.{state_size};
+ghost use Rattle.export.specs.Exported.{outcome_number, state_after, verdict_number, place_of, code_in, switch_number};
 
 use bridge::{Outcome, Stepped};
 use grammar::Verdict;
@@ -12,8 +12,8 @@ pub(crate) const TAKEN: u8 = 0;
 
 // The number of an answer; the new state of a call that was taken goes to `state`.
 pub(crate) fn finish(state: &mut [u8], x: Stepped) -> u8
-    requires { length state.old ≡ stateSize }
-    ensures { (result ≡ outcomeNumber x.outcome) × (state.new ≡ stateAfter x.outcome x.bridge.state state.old) }
+    requires { length state.old ≡ state_size }
+    ensures { (result ≡ outcome_number x.outcome) × (state.new ≡ state_after x.outcome x.bridge.state state.old) }
 {
     let o = x.outcome;
     match o {
@@ -28,7 +28,7 @@ pub(crate) fn finish(state: &mut [u8], x: Stepped) -> u8
 }
 
 pub(crate) fn verdict_number(v: Verdict) -> u8
-    ensures { result ≡ verdictNumber v }
+    ensures { result ≡ verdict_number v }
 {
     match v {
         Verdict::Whole => 0,
@@ -60,7 +60,7 @@ pub(crate) fn code_in(v: Verdict) -> u8
 }
 
 pub(crate) fn switch_number(o: switch_on::Outcome) -> u8
-    ensures { result ≡ switchNumber o }
+    ensures { result ≡ switch_number o }
 {
     match o {
         switch_on::Outcome::On => TAKEN,

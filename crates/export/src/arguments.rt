@@ -1,8 +1,8 @@
 // What C hands over as numbers: an event, a device, a cursor.
 ghost use Rattle.std.specs.Prelude.{◌≡◌, length};
-ghost use Rattle.state_bytes.specs.StateBytes.{stateSize};
-ghost use Rattle.export.specs.Exported.{faultAsked, eventAsked, withoutEvent, deviceOf};
-ghost use Rattle.export.specs.Replaying.{cCursor, cursorOf};
+ghost use Rattle.state_bytes.specs.StateBytes.{state_size};
+ghost use Rattle.export.specs.Exported.{fault_asked, event_asked, without_event, device_of};
+ghost use Rattle.export.specs.Replaying.{c_cursor, cursor_of};
 
 use bridge::Bridge;
 use refusals::Refusal;
@@ -25,7 +25,7 @@ const FAULT: u8 = 2;
 
 // A line fault by its code.
 fn fault(value: u8) -> Asked
-    ensures { result ≡ faultAsked value }
+    ensures { result ≡ fault_asked value }
 {
     match value {
         codes::FRAME => Asked::Event(Event::Fault(Fault::Frame)),
@@ -37,7 +37,7 @@ fn fault(value: u8) -> Asked
 
 // An event by its kind and its value.
 pub(crate) fn event_of(kind: u8, value: u8) -> Asked
-    ensures { result ≡ eventAsked kind value }
+    ensures { result ≡ event_asked kind value }
 {
     if kind == BYTE {
         return Asked::Event(Event::Byte(value));
@@ -59,7 +59,7 @@ pub(crate) fn no_event(
     replies: usize,
     replied: usize,
 ) -> u8
-    ensures { result ≡ withoutEvent s why samples sampled actions acted replies replied }
+    ensures { result ≡ without_event s why samples sampled actions acted replies replied }
 {
     if !registers::in_range(s) {
         return refusals::number(Refusal::Ranges);
@@ -78,7 +78,7 @@ pub(crate) fn no_event(
 
 // What the device has besides an image, with its serial number as bytes.
 pub(crate) fn device(cycles: u8, version: u8, serial: u32) -> Device
-    ensures { result ≡ deviceOf cycles version serial }
+    ensures { result ≡ device_of cycles version serial }
 {
     let a = (serial % 256) as u8;
     let b = (serial / 256 % 256) as u8;
@@ -100,8 +100,8 @@ pub(crate) fn cursor_of(
     sampled: usize,
     done: u8,
 ) -> Cursor
-    requires { length state.now ≡ stateSize }
-    ensures { result ≡ cursorOf (cCursor state.now at end sample sampled done) }
+    requires { length state.now ≡ state_size }
+    ensures { result ≡ cursor_of (c_cursor state.now at end sample sampled done) }
 {
     let s = decoding::state_of(state);
     Cursor {

@@ -1,8 +1,8 @@
 // What C links: include/bridge.h. A state goes by its bytes, and every answer but the number by a pointer.
 ghost use Rattle.std.specs.Prelude.{◌≡◌};
 ghost use Rattle.bridge.specs.Answering.{lent};
-ghost use Rattle.export.specs.Exported.{startCall, startGives, stepCall, stepGives, judgeAnswer, judgeGives, deviceOf, switchCall, switchGives};
-ghost use Rattle.export.specs.Replaying.{cCursor, replayCall, Replays};
+ghost use Rattle.export.specs.Exported.{start_call, start_gives, step_call, step_gives, judge_answer, judge_gives, device_of, switch_call, switch_gives};
+ghost use Rattle.export.specs.Replaying.{c_cursor, replay_call, Replays};
 
 mod answers;
 mod arguments;
@@ -16,7 +16,7 @@ use state_bytes::{decoding, encoding};
 // The state that every session starts with goes to `state`.
 #[unsafe(no_mangle)]
 pub extern "C" fn bridge_factory_start(state: &mut [u8]) -> u8
-    ensures { startCall result state.new ≡ startGives state.old }
+    ensures { start_call result state.new ≡ start_gives state.old }
 {
     if state.len() != decoding::SIZE {
         return refusals::number(Refusal::Ranges);
@@ -43,7 +43,7 @@ pub extern "C" fn bridge_step(
     sent: &mut usize,
     made: &mut usize,
 ) -> u8
-    ensures { stepCall result state.new actions.new replies.new used.new sent.new made.new ≡ stepGives state.old kind value (lent samples.now sampled actions.old acted replies.old replied) }
+    ensures { step_call result state.new actions.new replies.new used.new sent.new made.new ≡ step_gives state.old kind value (lent samples.now sampled actions.old acted replies.old replied) }
 {
     *used = 0;
     *sent = 0;
@@ -87,7 +87,7 @@ pub extern "C" fn bridge_judge(
     place: &mut usize,
     code: &mut u8,
 ) -> u8
-    ensures { judgeAnswer result verdict.new place.new code.new ≡ judgeGives state.now bytes.now verdict.old place.old code.old }
+    ensures { judge_answer result verdict.new place.new code.new ≡ judge_gives state.now bytes.now verdict.old place.old code.old }
 {
     if !decoding::is_state(state) {
         return refusals::number(Refusal::Ranges);
@@ -119,7 +119,7 @@ pub extern "C" fn bridge_switch_on<'a>(
     acted: usize,
     made: &mut usize,
 ) -> u8
-    ensures { switchCall result state.new actions.new made.new ≡ switchGives stored.now factory.now (deviceOf cycles version serial) state.old actions.old acted }
+    ensures { switch_call result state.new actions.new made.new ≡ switch_gives stored.now factory.now (device_of cycles version serial) state.old actions.old acted }
 {
     *made = 0;
     if state.len() != decoding::SIZE {
@@ -148,7 +148,7 @@ pub extern "C" fn bridge_replay(
     output: &mut [u8],
     written: &mut usize,
 ) -> u8
-    ensures { Replays session.now (cCursor state.old at.old end.old sample.old sampled.old done.old) output.old (replayCall result (cCursor state.new at.new end.new sample.new sampled.new done.new) output.new written.new) }
+    ensures { Replays session.now (c_cursor state.old at.old end.old sample.old sampled.old done.old) output.old (replay_call result (c_cursor state.new at.new end.new sample.new sampled.new done.new) output.new written.new) }
 {
     *written = 0;
     if !decoding::is_state(state) {

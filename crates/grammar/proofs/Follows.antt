@@ -5,13 +5,13 @@ use mathlib.Core.Path.{◌≡◌, refl, subst}
 use mathlib.Core.Bool.{Bool, true, false, cond}
 use mathlib.Core.List.{List, [], ◌∷◌}
 use mathlib.Core.Logic.{◌↔◌}
-use Rattle.codes.specs.Codes.{anyRejecting}
+use Rattle.codes.specs.Codes.{any_rejecting}
 use Rattle.grammar.specs.Scanner.{Between, Scanner, Scanned, Accepted, Rejected, scan}
-use Rattle.grammar.specs.Machines.{Machine, Call, NotRefused, after_call, notRefused, final}
+use Rattle.grammar.specs.Machines.{Machine, Call, NotRefused, after_call, not_refused, final}
 
 -- what the scanner makes of a byte, the codes that the machine returns, and the views before and after
 abbrev pub Agree : Scanned → List ℕ → Scanner → Scanner → Type 0
-Agree (Accepted g) ws v v' = (anyRejecting ws ≡ false) × (v' ≡ g)
+Agree (Accepted g) ws v v' = (any_rejecting ws ≡ false) × (v' ≡ g)
 Agree (Rejected w) ws v v' = (ws ≡ w ∷ []) × (v' ≡ v)
 
 pub record Follows (M : Machine) (view : M.State → Scanner) : Type 0 where
@@ -26,7 +26,7 @@ module _ (M : Machine) (view : M.State → Scanner) (F : Follows M view) where
   -- one leaves the view
   pub along : (P : Scanner → List (NotRefused M) → Scanner → Type 0) → ((v : Scanner) → P v [] v)
       → ((v w u : Scanner) (t : NotRefused M) (ts : List (NotRefused M)) → Agree (scan v t.byte) t.codes v w → P w ts u → P v (t ∷ ts) u)
-      → (s : M.State) → M.Good s → (ks : List (Call M)) → P (view s) (notRefused M s ks) (view (final M s ks))
+      → (s : M.State) → M.Good s → (ks : List (Call M)) → P (view s) (not_refused M s ks) (view (final M s ks))
   along P none more s g [] = none (view s)
   along P none more s g (k ∷ ks) = go (M.refuses s k.byte k.lent) refl (along P none more (after_call M s k) (F.good s k.byte k.lent k.fits g) ks)
     where
@@ -34,7 +34,7 @@ module _ (M : Machine) (view : M.State → Scanner) (F : Follows M view) where
       t = record { byte = k.byte; codes = M.codes s k.byte k.lent }
 
       ts : List (NotRefused M)
-      ts = notRefused M (after_call M s k) ks
+      ts = not_refused M (after_call M s k) ks
 
       u : Scanner
       u = view (final M (after_call M s k) ks)

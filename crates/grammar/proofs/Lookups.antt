@@ -16,15 +16,15 @@ abbrev pub values : {A : Type 0} → (ℕ → A) → ℕ → ℕ → List A
 values f zero i = []
 values f (suc n) i = f i ∷ values f n (suc i)
 
-values-at : {A : Type 0} (f g : ℕ → A) (n i : ℕ) → values f n i ≡ values g n i → (k : ℕ) → k < n → f (i + k) ≡ g (i + k)
-values-at f g zero i e k h = absurd (omega arith)
-values-at f g (suc n) i e zero h = ap f (add-zero i) ∙ head-eq_of_cons-eq e ∙ ap g (sym (add-zero i))
-values-at f g (suc n) i e (suc k) h =
+values_at : {A : Type 0} (f g : ℕ → A) (n i : ℕ) → values f n i ≡ values g n i → (k : ℕ) → k < n → f (i + k) ≡ g (i + k)
+values_at f g zero i e k h = absurd (omega arith)
+values_at f g (suc n) i e zero h = ap f (add-zero i) ∙ head-eq_of_cons-eq e ∙ ap g (sym (add-zero i))
+values_at f g (suc n) i e (suc k) h =
     let q : i + suc k ≡ suc i + k = omega arith in
-    ap f q ∙ values-at f g n (suc i) (tail-eq_of_cons-eq e) k (omega arith) ∙ ap g (sym q)
+    ap f q ∙ values_at f g n (suc i) (tail-eq_of_cons-eq e) k (omega arith) ∙ ap g (sym q)
 
-pub byte-fact : {A : Type 0} (f g : ℕ → A) → values f 256 0 ≡ values g 256 0 → (b : ℕ) → b < 256 → f b ≡ g b
-byte-fact f g e b h = rw (← zero-add b) (values-at f g 256 0 e b h)
+pub byte_fact : {A : Type 0} (f g : ℕ → A) → values f 256 0 ≡ values g 256 0 → (b : ℕ) → b < 256 → f b ≡ g b
+byte_fact f g e b h = rw (← zero-add b) (values_at f g 256 0 e b h)
 
 -- THE KEYS OF AN ARM
 
@@ -44,4 +44,4 @@ none_of (k ∷ j ∷ ks) b h = rw (ne_eqb b k (λ q. h (inl q))) (none_of (j ∷
 
 -- a byte that no arm names: the function gives x there, if it does so at every such byte
 pub other : {A : Type 0} (f : ℕ → A) (x : A) (named : ℕ → Bool) → values (λ (b : ℕ). cond (named b) (f b) x) 256 0 ≡ values f 256 0 → (b : ℕ) → b < 256 → named b ≡ false → x ≡ f b
-other f x named e b h q = sym (ap (λ (t : Bool). cond t (f b) x) q) ∙ byte-fact (λ (b : ℕ). cond (named b) (f b) x) f e b h
+other f x named e b h q = sym (ap (λ (t : Bool). cond t (f b) x) q) ∙ byte_fact (λ (b : ℕ). cond (named b) (f b) x) f e b h

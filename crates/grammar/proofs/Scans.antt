@@ -9,18 +9,18 @@ use borrow.Author.Tests.{eq-eqb}
 use lib.Dec.{eqb}
 use lib.ListN.{length, get_or, drop, drop_of_length-le}
 use lib.Seq.{drop-cons}
-use Rattle.grammar.specs.Grammar.{Context, ContextChange, commands, count, contextAfter}
-use Rattle.grammar.specs.WrongCode.{codeFor}
-use Rattle.grammar.specs.Scanner.{Place, Extended, Inside, Scanner, Scanned, Accepted, Rejected, Opening, Unknown, Known, Extension, row_of, openingOf, between, going, opened, scanAt, scan, Course, through, rejectedAt, later, resume, scanAll}
-use Rattle.grammar.specs.Verdict.{Whole, Open, Wrong, atEnd, verdict}
-use Rattle.grammar.specs.Following.{openingIn, operandsOf, operandsIn}
-use Rattle.grammar.specs.Lookups.{accepts, code_of, changeOf}
-use Rattle.grammar.proofs.Table.{opening-extension, extension-none}
+use Rattle.grammar.specs.Grammar.{Context, ContextChange, commands, count, context_after}
+use Rattle.grammar.specs.WrongCode.{code_for}
+use Rattle.grammar.specs.Scanner.{Place, Extended, Inside, Scanner, Scanned, Accepted, Rejected, Opening, Unknown, Known, Extension, row_of, opening_of, between, going, opened, scan_at, scan, Course, through, rejected_at, later, resume, scan_all}
+use Rattle.grammar.specs.Verdict.{Whole, Open, Wrong, at_end, verdict}
+use Rattle.grammar.specs.Following.{opening_in, operands_of, operands_in}
+use Rattle.grammar.specs.Lookups.{accepts, code_of, change_of}
+use Rattle.grammar.proofs.Table.{opening_extension, extension_none}
 
 -- ONE BYTE
 
-pub going-ended : (e : ContextChange) (n b : ℕ) (c d : Context) → n ≡ 0 → d ≡ contextAfter e b c → between d ≡ going e n b c
-going-ended e n b c d q r = ap between r ∙ ap (λ (m : ℕ). going e m b c) (sym q)
+pub going_ended : (e : ContextChange) (n b : ℕ) (c d : Context) → n ≡ 0 → d ≡ context_after e b c → between d ≡ going e n b c
+going_ended e n b c d q r = ap between r ∙ ap (λ (m : ℕ). going e m b c) (sym q)
 
 pub going_on : (e : ContextChange) (n b : ℕ) (c : Context) → (n ≡ 0 → ⊥) → record { context = c; place = Inside e (n - 1) } ≡ going e n b c
 going_on e zero b c h = absurd (h refl)
@@ -29,21 +29,21 @@ going_on e (suc n) b c h = let q : suc n - 1 ≡ n = omega arith in ap (λ (m : 
 pub rejected : (o : Opening) (c : Context) (b w : ℕ) → accepts o c ≡ false → w ≡ code_of o c → Rejected w ≡ opened o c b
 rejected Unknown c b w q e = ap Rejected e
 rejected (Known k) c b w q e =
-    ap Rejected e ∙ sym (ap (λ (t : Bool). cond t (Accepted (going k.change (count k.operands c) b c)) (Rejected (codeFor k.needs c))) q)
+    ap Rejected e ∙ sym (ap (λ (t : Bool). cond t (Accepted (going k.change (count k.operands c) b c)) (Rejected (code_for k.needs c))) q)
 rejected Extension c b w q e = absurd (true≢false q)
 
-pub accepted : (o : Opening) (c : Context) (b n : ℕ) (e : ContextChange) → accepts o c ≡ true → (o ≡ Extension → ⊥) → n ≡ operandsOf o c → e ≡ changeOf o → Accepted (going e n b c) ≡ opened o c b
+pub accepted : (o : Opening) (c : Context) (b n : ℕ) (e : ContextChange) → accepts o c ≡ true → (o ≡ Extension → ⊥) → n ≡ operands_of o c → e ≡ change_of o → Accepted (going e n b c) ≡ opened o c b
 accepted Unknown c b n e q x m r = absurd (false≢true q)
 accepted (Known k) c b n e q x m r =
-    rw (m, r) (sym (ap (λ (t : Bool). cond t (Accepted (going k.change (count k.operands c) b c)) (Rejected (codeFor k.needs c))) q))
+    rw (m, r) (sym (ap (λ (t : Bool). cond t (Accepted (going k.change (count k.operands c) b c)) (Rejected (code_for k.needs c))) q))
 accepted Extension c b n e q x m r = absurd (x refl)
 
 -- 1D between items, and nothing else, opens an extension
-pub opens : (b : ℕ) (x : Bool) (c : Context) → eqb b 0x1D && not x ≡ true → Accepted (record { context = c; place = Extended }) ≡ opened (openingIn b x) c b
-unfolding openingOf
+pub opens : (b : ℕ) (x : Bool) (c : Context) → eqb b 0x1D && not x ≡ true → Accepted (record { context = c; place = Extended }) ≡ opened (opening_in b x) c b
+unfolding opening_of
 opens b true c h = go (eqb b 0x1D) h
   where
-    go : (t : Bool) → t && false ≡ true → Accepted (record { context = c; place = Extended }) ≡ opened (openingIn b true) c b
+    go : (t : Bool) → t && false ≡ true → Accepted (record { context = c; place = Extended }) ≡ opened (opening_in b true) c b
     go true p = absurd (false≢true p)
     go false p = absurd (false≢true p)
 opens b false c h = go (eqb b 0x1D) h
@@ -52,22 +52,22 @@ opens b false c h = go (eqb b 0x1D) h
     go true p = refl
     go false p = absurd (false≢true p)
 
-pub opens-none : (b : ℕ) (x : Bool) → eqb b 0x1D && not x ≡ false → openingIn b x ≡ Extension → ⊥
-opens-none b true h e = extension-none b e
-opens-none b false h e = let q = eq-eqb b 0x1D (opening-extension b e) in true≢false (rw q at h)
+pub opens_none : (b : ℕ) (x : Bool) → eqb b 0x1D && not x ≡ false → opening_in b x ≡ Extension → ⊥
+opens_none b true h e = extension_none b e
+opens_none b false h e = let q = eq-eqb b 0x1D (opening_extension b e) in true≢false (rw q at h)
 
 -- at a place that is known
-pub scan-at : (g : Scanner) (b : ℕ) (p : Place) (r : Scanned) → g.place ≡ p → r ≡ scanAt p g.context b → r ≡ scan g b
-scan-at g b p r q e = e ∙ ap (λ (x : Place). scanAt x g.context b) (sym q)
+pub scan_at_lem : (g : Scanner) (b : ℕ) (p : Place) (r : Scanned) → g.place ≡ p → r ≡ scan_at p g.context b → r ≡ scan g b
+scan_at_lem g b p r q e = e ∙ ap (λ (x : Place). scan_at x g.context b) (sym q)
 
 -- where an item may begin, and after 1D
 abbrev pub standing : Context → Bool → Scanner
 standing c true = record { context = c; place = Extended }
 standing c false = between c
 
-scan-standing : (c : Context) (b : ℕ) (x : Bool) → opened (openingIn b x) c b ≡ scan (standing c x) b
-scan-standing c b true = refl
-scan-standing c b false = refl
+scan_standing : (c : Context) (b : ℕ) (x : Bool) → opened (opening_in b x) c b ≡ scan (standing c x) b
+scan_standing c b true = refl
+scan_standing c b false = refl
 
 -- THE JUDGE'S LOOP
 
@@ -75,88 +75,88 @@ abbrev latest : ℕ → Course → Course
 latest zero o = o
 latest (suc i) o = latest i (later o)
 
-latest-through : (i : ℕ) (g : Scanner) → latest i (through g) ≡ through g
-latest-through zero g = refl
-latest-through (suc i) g = latest-through i g
+latest_through : (i : ℕ) (g : Scanner) → latest i (through g) ≡ through g
+latest_through zero g = refl
+latest_through (suc i) g = latest_through i g
 
-latest-rejected : (i k w : ℕ) → latest i (rejectedAt k w) ≡ rejectedAt (i + k) w
-latest-rejected zero k w = let q : k ≡ 0 + k = omega arith in ap (λ (n : ℕ). rejectedAt n w) q
-latest-rejected (suc i) k w = let q : i + suc k ≡ suc i + k = omega arith in latest-rejected i (suc k) w ∙ ap (λ (n : ℕ). rejectedAt n w) q
+latest_rejected : (i k w : ℕ) → latest i (rejected_at k w) ≡ rejected_at (i + k) w
+latest_rejected zero k w = let q : k ≡ 0 + k = omega arith in ap (λ (n : ℕ). rejected_at n w) q
+latest_rejected (suc i) k w = let q : i + suc k ≡ suc i + k = omega arith in latest_rejected i (suc k) w ∙ ap (λ (n : ℕ). rejected_at n w) q
 
 -- the scanner's course, where i bytes have been read
 abbrev pub ReadTo : List ℕ → Scanner → Scanner → ℕ → Type 0
-ReadTo bs g₀ g i = scanAll g₀ bs ≡ latest i (scanAll g (drop i bs))
+ReadTo bs g₀ g i = scan_all g₀ bs ≡ latest i (scan_all g (drop i bs))
 
 read_next : (bs : List ℕ) (g₀ g h : Scanner) (i : ℕ) → i < length bs → Accepted h ≡ scan g (get_or bs i 0) → ReadTo bs g₀ g i → ReadTo bs g₀ h (i + 1)
 read_next bs g₀ g h i l e q =
     let n : suc i ≡ i + 1 = omega arith in
     q
-    ∙ ap (λ (x : List ℕ). latest i (scanAll g x)) (drop-cons bs i 0 l)
-    ∙ ap (λ (x : Scanned). latest i (resume x (λ (h : Scanner). scanAll h (drop (suc i) bs)))) (sym e)
-    ∙ ap (λ (x : ℕ). latest x (scanAll h (drop x bs))) n
+    ∙ ap (λ (x : List ℕ). latest i (scan_all g x)) (drop-cons bs i 0 l)
+    ∙ ap (λ (x : Scanned). latest i (resume x (λ (h : Scanner). scan_all h (drop (suc i) bs)))) (sym e)
+    ∙ ap (λ (x : ℕ). latest x (scan_all h (drop x bs))) n
 
-read-wrong : (bs : List ℕ) (g₀ g : Scanner) (i w : ℕ) → i < length bs → Rejected w ≡ scan g (get_or bs i 0) → ReadTo bs g₀ g i → Wrong i w ≡ verdict (scanAll g₀ bs)
-read-wrong bs g₀ g i w l e q =
+read_wrong : (bs : List ℕ) (g₀ g : Scanner) (i w : ℕ) → i < length bs → Rejected w ≡ scan g (get_or bs i 0) → ReadTo bs g₀ g i → Wrong i w ≡ verdict (scan_all g₀ bs)
+read_wrong bs g₀ g i w l e q =
     let n : i + 0 ≡ i = omega arith in
     sym
     (ap verdict
     (q
-    ∙ ap (λ (x : List ℕ). latest i (scanAll g x)) (drop-cons bs i 0 l)
-    ∙ ap (λ (x : Scanned). latest i (resume x (λ (h : Scanner). scanAll h (drop (suc i) bs)))) (sym e)
-    ∙ latest-rejected i 0 w)
+    ∙ ap (λ (x : List ℕ). latest i (scan_all g x)) (drop-cons bs i 0 l)
+    ∙ ap (λ (x : Scanned). latest i (resume x (λ (h : Scanner). scan_all h (drop (suc i) bs)))) (sym e)
+    ∙ latest_rejected i 0 w)
     ∙ ap (λ (k : ℕ). Wrong k w) n)
 
-read-end : (bs : List ℕ) (g₀ g : Scanner) (i : ℕ) → length bs ≤ i → ReadTo bs g₀ g i → atEnd g.place ≡ verdict (scanAll g₀ bs)
-read-end bs g₀ g i l q =
-    sym (ap verdict (q ∙ ap (λ (x : List ℕ). latest i (scanAll g x)) (drop_of_length-le bs l) ∙ latest-through i g))
+read_end : (bs : List ℕ) (g₀ g : Scanner) (i : ℕ) → length bs ≤ i → ReadTo bs g₀ g i → at_end g.place ≡ verdict (scan_all g₀ bs)
+read_end bs g₀ g i l q =
+    sym (ap verdict (q ∙ ap (λ (x : List ℕ). latest i (scan_all g x)) (drop_of_length-le bs l) ∙ latest_through i g))
 
 -- THE OPERANDS OF AN ITEM: all of them are there, or the bytes end inside it
 
-read-operands : (bs : List ℕ) (g₀ : Scanner) (e : ContextChange) (n b : ℕ) (c : Context) (i : ℕ) → i + n < length bs → b ≡ get_or bs i 0 → ReadTo bs g₀ (going e n b c) (i + 1)
-    → ReadTo bs g₀ (between (contextAfter e (get_or bs (i + n) 0) c)) (i + n + 1)
-read-operands bs g₀ e zero b c i l q r =
+read_operands : (bs : List ℕ) (g₀ : Scanner) (e : ContextChange) (n b : ℕ) (c : Context) (i : ℕ) → i + n < length bs → b ≡ get_or bs i 0 → ReadTo bs g₀ (going e n b c) (i + 1)
+    → ReadTo bs g₀ (between (context_after e (get_or bs (i + n) 0) c)) (i + n + 1)
+read_operands bs g₀ e zero b c i l q r =
     let z : i + 0 ≡ i = omega arith in
     rw (z, ← q) r
-read-operands bs g₀ e (suc n) b c i l q r =
+read_operands bs g₀ e (suc n) b c i l q r =
     let z : i + suc n ≡ i + 1 + n = omega arith in
-    rw z (read-operands bs g₀ e n (get_or bs (i + 1) 0) c (i + 1) (omega arith) refl (read_next bs g₀ _ _ (i + 1) (omega arith) refl r))
+    rw z (read_operands bs g₀ e n (get_or bs (i + 1) 0) c (i + 1) (omega arith) refl (read_next bs g₀ _ _ (i + 1) (omega arith) refl r))
 
 read_short : (bs : List ℕ) (g₀ : Scanner) (e : ContextChange) (n b : ℕ) (c : Context) (i : ℕ) → i < length bs → length bs ≤ i + n → ReadTo bs g₀ (going e n b c) (i + 1)
-    → Open ≡ verdict (scanAll g₀ bs)
+    → Open ≡ verdict (scan_all g₀ bs)
 read_short bs g₀ e zero b c i l s r = absurd (omega arith)
 read_short bs g₀ e (suc n) b c i l s r = go (dec_lt (i + 1) (length bs)) (read_short bs g₀ e n (get_or bs (i + 1) 0) c (i + 1))
   where
-    go : Dec (i + 1 < length bs) → (i + 1 < length bs → length bs ≤ i + 1 + n → ReadTo bs g₀ (going e n (get_or bs (i + 1) 0) c) (i + 1 + 1) → Open ≡ verdict (scanAll g₀ bs)) → Open ≡ verdict (scanAll g₀ bs)
+    go : Dec (i + 1 < length bs) → (i + 1 < length bs → length bs ≤ i + 1 + n → ReadTo bs g₀ (going e n (get_or bs (i + 1) 0) c) (i + 1 + 1) → Open ≡ verdict (scan_all g₀ bs)) → Open ≡ verdict (scan_all g₀ bs)
     go (yes m) f = f m (omega arith) (read_next bs g₀ _ _ (i + 1) m refl r)
-    go (no m) f = read-end bs g₀ _ (i + 1) (omega arith) r
+    go (no m) f = read_end bs g₀ _ (i + 1) (omega arith) r
 
 -- THE TURNS OF THE JUDGE'S LOOP, with i bytes read and the byte b at hand
 
 module _ (bs : List ℕ) (g₀ : Scanner) (c : Context) (b : ℕ) (x : Bool) (i : ℕ) (l : i < length bs) (at : b ≡ get_or bs i 0) (r : ReadTo bs g₀ (standing c x) i) where
-  here : {s : Scanned} → s ≡ opened (openingIn b x) c b → s ≡ scan (standing c x) (get_or bs i 0)
-  here e = e ∙ scan-standing c b x ∙ ap (scan (standing c x)) at
+  here : {s : Scanned} → s ≡ opened (opening_in b x) c b → s ≡ scan (standing c x) (get_or bs i 0)
+  here e = e ∙ scan_standing c b x ∙ ap (scan (standing c x)) at
 
-  pub turn-wrong : accepts (openingIn b x) c ≡ false → (w : ℕ) → w ≡ code_of (openingIn b x) c → Wrong i w ≡ verdict (scanAll g₀ bs)
-  turn-wrong q w e = read-wrong bs g₀ _ i w l (here (rejected (openingIn b x) c b w q e)) r
+  pub turn_wrong : accepts (opening_in b x) c ≡ false → (w : ℕ) → w ≡ code_of (opening_in b x) c → Wrong i w ≡ verdict (scan_all g₀ bs)
+  turn_wrong q w e = read_wrong bs g₀ _ i w l (here (rejected (opening_in b x) c b w q e)) r
 
-  pub turn-extension : eqb b 0x1D && not x ≡ true → ReadTo bs g₀ (standing c true) (i + 1)
-  turn-extension q = read_next bs g₀ _ _ i l (here (opens b x c q)) r
+  pub turn_extension : eqb b 0x1D && not x ≡ true → ReadTo bs g₀ (standing c true) (i + 1)
+  turn_extension q = read_next bs g₀ _ _ i l (here (opens b x c q)) r
 
-  entered : (n : ℕ) (e : ContextChange) → accepts (openingIn b x) c ≡ true → eqb b 0x1D && not x ≡ false → n ≡ operandsIn c b x → e ≡ changeOf (openingIn b x) → ReadTo bs g₀ (going e n b c) (i + 1)
-  entered n e q h m f = read_next bs g₀ _ _ i l (here (accepted (openingIn b x) c b n e q (opens-none b x h) m f)) r
+  entered : (n : ℕ) (e : ContextChange) → accepts (opening_in b x) c ≡ true → eqb b 0x1D && not x ≡ false → n ≡ operands_in c b x → e ≡ change_of (opening_in b x) → ReadTo bs g₀ (going e n b c) (i + 1)
+  entered n e q h m f = read_next bs g₀ _ _ i l (here (accepted (opening_in b x) c b n e q (opens_none b x h) m f)) r
 
-  pub turn-open : (n : ℕ) → accepts (openingIn b x) c ≡ true → eqb b 0x1D && not x ≡ false → n ≡ operandsIn c b x → length bs ≤ i + n → Open ≡ verdict (scanAll g₀ bs)
-  turn-open n q h m s = read_short bs g₀ _ n b c i l s (entered n (changeOf (openingIn b x)) q h m refl)
+  pub turn_open : (n : ℕ) → accepts (opening_in b x) c ≡ true → eqb b 0x1D && not x ≡ false → n ≡ operands_in c b x → length bs ≤ i + n → Open ≡ verdict (scan_all g₀ bs)
+  turn_open n q h m s = read_short bs g₀ _ n b c i l s (entered n (change_of (opening_in b x)) q h m refl)
 
-  pub turn-item : (n : ℕ) (e : ContextChange) (d : Context) → accepts (openingIn b x) c ≡ true → eqb b 0x1D && not x ≡ false → n ≡ operandsIn c b x → e ≡ changeOf (openingIn b x)
-      → i + n < length bs → d ≡ contextAfter e (get_or bs (i + n) 0) c → ReadTo bs g₀ (standing d false) (i + (n + 1))
-  turn-item n e d q h m f s a =
+  pub turn_item : (n : ℕ) (e : ContextChange) (d : Context) → accepts (opening_in b x) c ≡ true → eqb b 0x1D && not x ≡ false → n ≡ operands_in c b x → e ≡ change_of (opening_in b x)
+      → i + n < length bs → d ≡ context_after e (get_or bs (i + n) 0) c → ReadTo bs g₀ (standing d false) (i + (n + 1))
+  turn_item n e d q h m f s a =
       let z : i + (n + 1) ≡ i + n + 1 = omega arith in
-      rw (z, a) (read-operands bs g₀ e n b c i s at (entered n e q h m f))
+      rw (z, a) (read_operands bs g₀ e n b c i s at (entered n e q h m f))
 
-pub turn_end : (bs : List ℕ) (g₀ : Scanner) (c : Context) (x t : Bool) (i : ℕ) → length bs ≤ i → x ≡ t → ReadTo bs g₀ (standing c x) i → cond t Open Whole ≡ verdict (scanAll g₀ bs)
+pub turn_end : (bs : List ℕ) (g₀ : Scanner) (c : Context) (x t : Bool) (i : ℕ) → length bs ≤ i → x ≡ t → ReadTo bs g₀ (standing c x) i → cond t Open Whole ≡ verdict (scan_all g₀ bs)
 turn_end bs g₀ c x t i l e r = go t (subst (λ (y : Bool). ReadTo bs g₀ (standing c y) i) e r)
   where
-    go : (y : Bool) → ReadTo bs g₀ (standing c y) i → cond y Open Whole ≡ verdict (scanAll g₀ bs)
-    go true q = read-end bs g₀ _ i l q
-    go false q = read-end bs g₀ _ i l q
+    go : (y : Bool) → ReadTo bs g₀ (standing c y) i → cond y Open Whole ≡ verdict (scan_all g₀ bs)
+    go true q = read_end bs g₀ _ i l q
+    go false q = read_end bs g₀ _ i l q

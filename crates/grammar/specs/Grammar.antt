@@ -2,7 +2,7 @@
 -- declared in src/lib.rt, each with 01's words.
 use Rattle.std.specs.Prelude.{ℕ, ◌<◌, ◌≡◌, Bool, true, false, ◌&&◌, eqb, length}
 use mathlib.Core.List.{List, [], ◌∷◌, ◌++◌, Memᴰ, map}
-use Rattle.packet.specs.Packet.{width, size_of, packetBytes}
+use Rattle.packet.specs.Packet.{width, size_of, packet_bytes}
 pub use Rattle.grammar.specs.declared.Interface.{Interface}
 pub use Rattle.grammar.specs.declared.Interface.TheVariants.{NoInterface, I2C, SPI, OneWire}
 pub use Rattle.grammar.specs.declared.Context.{Context}
@@ -32,72 +32,72 @@ pub record Command : Type 0 where
   pub change : ContextChange
 
 -- rows that differ in their codes alone
-abbrev pub rowsFor : List ℕ → Needs → Operands → ContextChange → List Command
-rowsFor codes n o e = map (λ (k : ℕ). record { code = k; needs = n; operands = o; change = e }) codes
+abbrev pub rows_for : List ℕ → Needs → Operands → ContextChange → List Command
+rows_for codes n o e = map (λ (k : ℕ). record { code = k; needs = n; operands = o; change = e }) codes
 
 -- 01, "Registers and common commands"
-abbrev pub commonCommands : List Command
-commonCommands =
-    rowsFor (0x00 ∷ []) Common None Clear
-    ++ rowsFor (0x01 ∷ []) Common None (Select I2C)
-    ++ rowsFor (0x02 ∷ []) Common None (Select SPI)
-    ++ rowsFor (0x03 ∷ []) Common None (Select OneWire)
-    ++ rowsFor (0x04 ∷ 0x05 ∷ 0x06 ∷ 0x07 ∷ 0x08 ∷ 0x09 ∷ 0x0A ∷ []) Common None Keep
-    ++ rowsFor (0x0B ∷ 0x0D ∷ 0x0F ∷ 0x11 ∷ 0x13 ∷ 0x15 ∷ []) Common One Keep
-    ++ rowsFor (0x0C ∷ 0x0E ∷ 0x10 ∷ 0x12 ∷ 0x14 ∷ 0x16 ∷ []) Common None Keep
-    ++ rowsFor (0x17 ∷ 0x18 ∷ 0x19 ∷ 0x1A ∷ 0x1B ∷ 0x1E ∷ 0x1C ∷ []) Common None Keep
+abbrev pub common_commands : List Command
+common_commands =
+    rows_for (0x00 ∷ []) Common None Clear
+    ++ rows_for (0x01 ∷ []) Common None (Select I2C)
+    ++ rows_for (0x02 ∷ []) Common None (Select SPI)
+    ++ rows_for (0x03 ∷ []) Common None (Select OneWire)
+    ++ rows_for (0x04 ∷ 0x05 ∷ 0x06 ∷ 0x07 ∷ 0x08 ∷ 0x09 ∷ 0x0A ∷ []) Common None Keep
+    ++ rows_for (0x0B ∷ 0x0D ∷ 0x0F ∷ 0x11 ∷ 0x13 ∷ 0x15 ∷ []) Common One Keep
+    ++ rows_for (0x0C ∷ 0x0E ∷ 0x10 ∷ 0x12 ∷ 0x14 ∷ 0x16 ∷ []) Common None Keep
+    ++ rows_for (0x17 ∷ 0x18 ∷ 0x19 ∷ 0x1A ∷ 0x1B ∷ 0x1E ∷ 0x1C ∷ []) Common None Keep
 
 -- 01, "I2C"
-abbrev pub i2cCommands : List Command
-i2cCommands =
-    rowsFor (0x20 ∷ 0x21 ∷ []) (Selected I2C) None Keep
-    ++ rowsFor (0x22 ∷ []) (Selected I2C) One Keep
-    ++ rowsFor (0x23 ∷ 0x24 ∷ 0x25 ∷ 0x26 ∷ 0x27 ∷ []) (Selected I2C) None Keep
+abbrev pub i2c_commands : List Command
+i2c_commands =
+    rows_for (0x20 ∷ 0x21 ∷ []) (Selected I2C) None Keep
+    ++ rows_for (0x22 ∷ []) (Selected I2C) One Keep
+    ++ rows_for (0x23 ∷ 0x24 ∷ 0x25 ∷ 0x26 ∷ 0x27 ∷ []) (Selected I2C) None Keep
 
 -- 01, "SPI"; "41, 44, 46, 4B, 4C need configured"
-abbrev pub spiCommands : List Command
-spiCommands =
-    rowsFor (0x40 ∷ []) (Selected SPI) One Configure
-    ++ rowsFor (0x41 ∷ []) Configured None Keep
-    ++ rowsFor (0x42 ∷ []) (Selected SPI) One Resize
-    ++ rowsFor (0x43 ∷ []) (Selected SPI) None Keep
-    ++ rowsFor (0x44 ∷ []) Configured Packet Keep
-    ++ rowsFor (0x45 ∷ []) (Selected SPI) None Keep
-    ++ rowsFor (0x46 ∷ []) Configured None Keep
-    ++ rowsFor (0x47 ∷ 0x48 ∷ 0x49 ∷ 0x4A ∷ []) (Selected SPI) None Keep
-    ++ rowsFor (0x4B ∷ []) Configured None Keep
-    ++ rowsFor (0x4C ∷ []) Configured Packet Keep
+abbrev pub spi_commands : List Command
+spi_commands =
+    rows_for (0x40 ∷ []) (Selected SPI) One Configure
+    ++ rows_for (0x41 ∷ []) Configured None Keep
+    ++ rows_for (0x42 ∷ []) (Selected SPI) One Resize
+    ++ rows_for (0x43 ∷ []) (Selected SPI) None Keep
+    ++ rows_for (0x44 ∷ []) Configured Packet Keep
+    ++ rows_for (0x45 ∷ []) (Selected SPI) None Keep
+    ++ rows_for (0x46 ∷ []) Configured None Keep
+    ++ rows_for (0x47 ∷ 0x48 ∷ 0x49 ∷ 0x4A ∷ []) (Selected SPI) None Keep
+    ++ rows_for (0x4B ∷ []) Configured None Keep
+    ++ rows_for (0x4C ∷ []) Configured Packet Keep
 
 -- 01, "1-Wire"
-abbrev pub oneWireCommands : List Command
-oneWireCommands =
-    rowsFor (0x60 ∷ []) (Selected OneWire) None Keep
-    ++ rowsFor (0x61 ∷ 0x63 ∷ 0x67 ∷ []) (Selected OneWire) One Keep
-    ++ rowsFor (0x62 ∷ 0x64 ∷ []) (Selected OneWire) None Keep
-    ++ rowsFor (0x65 ∷ []) (Selected OneWire) Nine Keep
-    ++ rowsFor (0x66 ∷ 0x68 ∷ 0x69 ∷ 0x6A ∷ []) (Selected OneWire) None Keep
+abbrev pub one_wire_commands : List Command
+one_wire_commands =
+    rows_for (0x60 ∷ []) (Selected OneWire) None Keep
+    ++ rows_for (0x61 ∷ 0x63 ∷ 0x67 ∷ []) (Selected OneWire) One Keep
+    ++ rows_for (0x62 ∷ 0x64 ∷ []) (Selected OneWire) None Keep
+    ++ rows_for (0x65 ∷ []) (Selected OneWire) Nine Keep
+    ++ rows_for (0x66 ∷ 0x68 ∷ 0x69 ∷ 0x6A ∷ []) (Selected OneWire) None Keep
 
 unfoldable pub commands : List Command
-commands = commonCommands ++ i2cCommands ++ spiCommands ++ oneWireCommands
+commands = common_commands ++ i2c_commands ++ spi_commands ++ one_wire_commands
 
 -- the bytes that may follow 1D: 00 and 04 to 07 are left out, so unknown (H)
-unfoldable pub extendedCommands : List Command
-extendedCommands =
-    rowsFor (0x01 ∷ 0x02 ∷ 0x03 ∷ 0x08 ∷ 0x09 ∷ 0x0A ∷ 0x0B ∷ 0x0C ∷ 0x0D ∷ []) Common None Keep
-    ++ rowsFor (0x0E ∷ []) Common One Keep
-    ++ rowsFor (0x0F ∷ []) Common None Keep
+unfoldable pub extended_commands : List Command
+extended_commands =
+    rows_for (0x01 ∷ 0x02 ∷ 0x03 ∷ 0x08 ∷ 0x09 ∷ 0x0A ∷ 0x0B ∷ 0x0C ∷ 0x0D ∷ []) Common None Keep
+    ++ rows_for (0x0E ∷ []) Common One Keep
+    ++ rows_for (0x0F ∷ []) Common None Keep
 
 -- WHAT THE ROWS SAY
 
 -- an interface's number: the command that selects it, or 0 for none
-abbrev pub interfaceNumber : Interface → ℕ
-interfaceNumber NoInterface = 0x00
-interfaceNumber I2C = 0x01
-interfaceNumber SPI = 0x02
-interfaceNumber OneWire = 0x03
+abbrev pub interface_number : Interface → ℕ
+interface_number NoInterface = 0x00
+interface_number I2C = 0x01
+interface_number SPI = 0x02
+interface_number OneWire = 0x03
 
 abbrev pub selected : Interface → Context → Bool
-selected i c = eqb (interfaceNumber c.interface) (interfaceNumber i)
+selected i c = eqb (interface_number c.interface) (interface_number i)
 
 -- "a command legal in its context (common, or of its interface)"
 abbrev pub legal : Needs → Context → Bool
@@ -110,25 +110,25 @@ abbrev pub count : Operands → Context → ℕ
 count None c = 0
 count One c = 1
 count Nine c = 9
-count Packet c = packetBytes c.bits
+count Packet c = packet_bytes c.bits
 
 -- "none, unconfigured, N = 1"
-abbrev pub clearedContext : Context
-clearedContext = record { interface = NoInterface; configured = false; bits = 1 }
+abbrev pub cleared_context : Context
+cleared_context = record { interface = NoInterface; configured = false; bits = 1 }
 
 -- the context after an item whose last byte is b: "00 clears the context to none, unconfigured, N = 1; 01 to 03 change the
 -- interface; 40 configures; 42 sets N. Nothing else changes it."
-abbrev pub contextAfter : ContextChange → ℕ → Context → Context
-contextAfter Keep b c = c
-contextAfter Clear b c = clearedContext
-contextAfter (Select i) b c = record { interface = i; configured = c.configured; bits = c.bits }
-contextAfter Configure b c = record { interface = c.interface; configured = true; bits = c.bits }
-contextAfter Resize b c = record { interface = c.interface; configured = c.configured; bits = size_of width b }
+abbrev pub context_after : ContextChange → ℕ → Context → Context
+context_after Keep b c = c
+context_after Clear b c = cleared_context
+context_after (Select i) b c = record { interface = i; configured = c.configured; bits = c.bits }
+context_after Configure b c = record { interface = c.interface; configured = true; bits = c.bits }
+context_after Resize b c = record { interface = c.interface; configured = c.configured; bits = size_of width b }
 
 -- the context at the factory start: 01, "Session file", "00 seven times and FF three", so no interface, and "Switch-on", "FF FF FF
 -- without SPI (then configuration 0, N 1, unconfigured)"
-abbrev pub factoryContext : Context
-factoryContext = clearedContext
+abbrev pub factory_context : Context
+factory_context = cleared_context
 
 -- the last of b and the bytes after it
 abbrev pub last : ℕ → List ℕ → ℕ
@@ -138,9 +138,9 @@ last b (x ∷ xs) = last x xs
 -- AN ITEM (01's term) in a context, with the context after it
 pub data Item (c : Context) : List ℕ → Context → Type 0 where
   command : (k : Command) → Memᴰ k commands → legal k.needs c ≡ true → (ops : List ℕ) → length ops ≡ count k.operands c
-      → Item c (k.code ∷ ops) (contextAfter k.change (last k.code ops) c)
-  extended : (k : Command) → Memᴰ k extendedCommands → legal k.needs c ≡ true → (ops : List ℕ) → length ops ≡ count k.operands c
-      → Item c (0x1D ∷ k.code ∷ ops) (contextAfter k.change (last k.code ops) c)
+      → Item c (k.code ∷ ops) (context_after k.change (last k.code ops) c)
+  extended : (k : Command) → Memᴰ k extended_commands → legal k.needs c ≡ true → (ops : List ℕ) → length ops ≡ count k.operands c
+      → Item c (0x1D ∷ k.code ∷ ops) (context_after k.change (last k.code ops) c)
 
 -- "items in a row, or none at all"
 pub data Items : Context → List (List ℕ) → Context → Type 0 where

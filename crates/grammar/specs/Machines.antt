@@ -1,6 +1,6 @@
 -- Demand 3: what a list of calls, each of which hands over one byte, has to do with the grammar. Stated of any machine.
 use Rattle.std.specs.Prelude.{ℕ, ◌<◌, ◌≡◌, Bool, true, false, cond, List, [], ◌∷◌, map, ◌↔◌, get_or}
-use Rattle.codes.specs.Codes.{anyRejecting}
+use Rattle.codes.specs.Codes.{any_rejecting}
 use Rattle.grammar.specs.Grammar.{Context, Division, Orderly, Continuable}
 use Rattle.grammar.specs.Verdict.{FirstWrong, CodeAt}
 
@@ -37,12 +37,12 @@ module _ (M : Machine) where
   abbrev pub after_call : M.State → Call → M.State
   after_call s k = M.next s k.byte k.lent
 
-  abbrev pub notRefused : M.State → List Call → List NotRefused
-  notRefused s [] = []
-  notRefused s (k ∷ ks) =
+  abbrev pub not_refused : M.State → List Call → List NotRefused
+  not_refused s [] = []
+  not_refused s (k ∷ ks) =
       cond (M.refuses s k.byte k.lent)
-      (notRefused (after_call s k) ks)
-      (record { byte = k.byte; codes = M.codes s k.byte k.lent } ∷ notRefused (after_call s k) ks)
+      (not_refused (after_call s k) ks)
+      (record { byte = k.byte; codes = M.codes s k.byte k.lent } ∷ not_refused (after_call s k) ks)
 
   -- the state after the list
   abbrev pub final : M.State → List Call → M.State
@@ -56,25 +56,25 @@ module _ (M : Machine) where
   told ts = map (λ (t : NotRefused). t.codes) ts
 
 -- whether the byte at a place was rejected, by the codes that each returned; past the end nothing is
-abbrev pub wasRejected : List (List ℕ) → ℕ → Bool
-wasRejected cs j = anyRejecting (get_or cs j [])
+abbrev pub was_rejected : List (List ℕ) → ℕ → Bool
+was_rejected cs j = any_rejecting (get_or cs j [])
 
 abbrev pub NoneRejected : List (List ℕ) → Type 0
-NoneRejected cs = (j : ℕ) → wasRejected cs j ≡ false
+NoneRejected cs = (j : ℕ) → was_rejected cs j ≡ false
 
 abbrev pub FirstRejected : List (List ℕ) → ℕ → Type 0
-FirstRejected cs k = (wasRejected cs k ≡ true) × ((j : ℕ) → j < k → wasRejected cs j ≡ false)
+FirstRejected cs k = (was_rejected cs k ≡ true) × ((j : ℕ) → j < k → was_rejected cs j ≡ false)
 
 -- the byte at a place returned one code, w
 abbrev pub ReturnedAt : List (List ℕ) → ℕ → ℕ → Type 0
 ReturnedAt cs k w = get_or cs k [] ≡ w ∷ []
 
--- DEMAND 3, of one list of calls from a state s (proofs/Demand3.antt, `demand-3`, of every machine that follows the scanner)
+-- DEMAND 3, of one list of calls from a state s (proofs/Demand3.antt, `demand_3`, of every machine that follows the scanner)
 pub record Demand3 (M : Machine) (s : M.State) (ks : List (Call M)) : Type 0 where
-  pub none-rejected : NoneRejected (told M (notRefused M s ks)) ↔ Continuable (M.context s) (bytes M (notRefused M s ks))
-  pub first-rejected : (k : ℕ) → FirstRejected (told M (notRefused M s ks)) k ↔ FirstWrong (M.context s) (bytes M (notRefused M s ks)) k
+  pub none_rejected : NoneRejected (told M (not_refused M s ks)) ↔ Continuable (M.context s) (bytes M (not_refused M s ks))
+  pub first_rejected : (k : ℕ) → FirstRejected (told M (not_refused M s ks)) k ↔ FirstWrong (M.context s) (bytes M (not_refused M s ks)) k
   -- the code returned at the first rejected place is the one that the bytes give (02, Ask 1)
-  pub first_code : (k w : ℕ) → (FirstRejected (told M (notRefused M s ks)) k × ReturnedAt (told M (notRefused M s ks)) k w)
-      ↔ (FirstWrong (M.context s) (bytes M (notRefused M s ks)) k × CodeAt (M.context s) (bytes M (notRefused M s ks)) k w)
-  pub waits-for-nothing : (M.Idle (final M s ks) × NoneRejected (told M (notRefused M s ks))) ↔ Orderly (M.context s) (bytes M (notRefused M s ks))
-  pub divided-once : (p q : Division (M.context s) (bytes M (notRefused M s ks))) → p.0 ≡ q.0
+  pub first_code : (k w : ℕ) → (FirstRejected (told M (not_refused M s ks)) k × ReturnedAt (told M (not_refused M s ks)) k w)
+      ↔ (FirstWrong (M.context s) (bytes M (not_refused M s ks)) k × CodeAt (M.context s) (bytes M (not_refused M s ks)) k w)
+  pub waits_for_nothing : (M.Idle (final M s ks) × NoneRejected (told M (not_refused M s ks))) ↔ Orderly (M.context s) (bytes M (not_refused M s ks))
+  pub divided_once : (p q : Division (M.context s) (bytes M (not_refused M s ks))) → p.0 ≡ q.0

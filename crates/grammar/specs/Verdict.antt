@@ -4,7 +4,7 @@ use Rattle.std.specs.Prelude.{ℕ, suc, ◌<◌, ◌≡◌, List, ◌↔◌, len
 use Rattle.codes.specs.Codes.{rejecting}
 use Rattle.grammar.specs.Grammar.{Context, Orderly, Continuable}
 use Rattle.grammar.specs.WrongCode.{WrongCode}
-use Rattle.grammar.specs.Scanner.{Place, Between, Extended, Inside, Scanner, between, Course, through, rejectedAt, scanAll}
+use Rattle.grammar.specs.Scanner.{Place, Between, Extended, Inside, Scanner, between, Course, through, rejected_at, scan_all}
 pub use Rattle.grammar.specs.declared.Verdict.{Verdict}
 pub use Rattle.grammar.specs.declared.Verdict.TheVariants.{Whole, Open, Wrong}
 
@@ -24,21 +24,21 @@ Says c bs Open = (¬ Orderly c bs) × Continuable c bs
 Says c bs (Wrong k w) = SmallestWrong c bs k × CodeAt c bs k w
 
 -- THE JUDGE'S ANSWER
-abbrev pub atEnd : Place → Verdict
-atEnd Between = Whole
-atEnd Extended = Open
-atEnd (Inside e n) = Open
+abbrev pub at_end : Place → Verdict
+at_end Between = Whole
+at_end Extended = Open
+at_end (Inside e n) = Open
 
 abbrev pub verdict : Course → Verdict
-verdict (through g) = atEnd g.place
-verdict (rejectedAt k w) = Wrong k w
+verdict (through g) = at_end g.place
+verdict (rejected_at k w) = Wrong k w
 
-abbrev pub judgeOf : Context → List ℕ → Verdict
-judgeOf c bs = verdict (scanAll (between c) bs)
+abbrev pub judge_of : Context → List ℕ → Verdict
+judge_of c bs = verdict (scan_all (between c) bs)
 
--- THEOREM (proofs/Verdicts.antt, `judge-right`): the judge's answers are 01's, and they exclude each other
+-- THEOREM (proofs/Verdicts.antt, `judge_right`): the judge's answers are 01's, and they exclude each other
 pub record Judged (c : Context) (bs : List ℕ) : Type 0 where
-  pub answers : (v : Verdict) → (judgeOf c bs ≡ v) ↔ Says c bs v
+  pub answers : (v : Verdict) → (judge_of c bs ≡ v) ↔ Says c bs v
   pub exclude : (v w : Verdict) → Says c bs v → Says c bs w → v ≡ w
 
 -- the first k bytes can be continued, and with byte k they can't
@@ -48,8 +48,8 @@ FirstWrong c bs k = (k < length bs) × Continuable c (take k bs) × ¬ Continuab
 -- THEOREM (proofs/Decides.antt, `decides`): the scanner decides what is orderly and what can be continued, and stops at the
 -- first wrong place with the code there, which is 80, 84 or 40
 pub record Decided (c : Context) (bs : List ℕ) : Type 0 where
-  pub orderly : Orderly c bs ↔ ((d : Context) × (scanAll (between c) bs ≡ through (between d)))
-  pub continuable : Continuable c bs ↔ ((g : Scanner) × (scanAll (between c) bs ≡ through g))
-  pub wrong : (k : ℕ) → FirstWrong c bs k ↔ ((w : ℕ) × (scanAll (between c) bs ≡ rejectedAt k w))
-  pub code : (k w : ℕ) → (FirstWrong c bs k × CodeAt c bs k w) ↔ (scanAll (between c) bs ≡ rejectedAt k w)
-  pub rejects : (k w : ℕ) → scanAll (between c) bs ≡ rejectedAt k w → rejecting w ≡ true
+  pub orderly : Orderly c bs ↔ ((d : Context) × (scan_all (between c) bs ≡ through (between d)))
+  pub continuable : Continuable c bs ↔ ((g : Scanner) × (scan_all (between c) bs ≡ through g))
+  pub wrong : (k : ℕ) → FirstWrong c bs k ↔ ((w : ℕ) × (scan_all (between c) bs ≡ rejected_at k w))
+  pub code : (k w : ℕ) → (FirstWrong c bs k × CodeAt c bs k w) ↔ (scan_all (between c) bs ≡ rejected_at k w)
+  pub rejects : (k w : ℕ) → scan_all (between c) bs ≡ rejected_at k w → rejecting w ≡ true

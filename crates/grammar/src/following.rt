@@ -1,8 +1,8 @@
 // Where the bytes and line faults of a stream lead, and how many operands a command then has.
 ghost use Rattle.std.specs.Prelude.{◌≡◌};
-ghost use Rattle.grammar.specs.Grammar.{factoryContext};
+ghost use Rattle.grammar.specs.Grammar.{factory_context};
 ghost use Rattle.grammar.specs.Scanner.{scan};
-ghost use Rattle.grammar.specs.Following.{scannerAfter, followed, undropped, undisturbed, isBetween, afterFault, afterBytes, operandsIn};
+ghost use Rattle.grammar.specs.Following.{scanner_after, followed, undropped, undisturbed, is_between, after_fault, after_bytes, operands_in};
 
 use crate::{Context, Place, Scanned, Scanner, rows, scanning};
 
@@ -15,7 +15,7 @@ pub struct Stream {
 
 // The stream at the factory start of a session.
 pub fn start() -> Stream
-    ensures { result ≡ undisturbed factoryContext }
+    ensures { result ≡ undisturbed factory_context }
 {
     let context = crate::cleared_context();
     Stream {
@@ -29,7 +29,7 @@ pub fn start() -> Stream
 
 // Whether an item may begin at a place.
 fn is_between(p: Place) -> bool
-    ensures { result ≡ isBetween p }
+    ensures { result ≡ is_between p }
 {
     match p {
         Place::Between => true,
@@ -40,7 +40,7 @@ fn is_between(p: Place) -> bool
 
 // Where a stream stands after a line fault.
 pub fn after_fault(s: Stream) -> Stream
-    ensures { result ≡ afterFault s }
+    ensures { result ≡ after_fault s }
 {
     let scanner = s.scanner;
     let place = scanner.place;
@@ -50,7 +50,7 @@ pub fn after_fault(s: Stream) -> Stream
 
 // Where a scanner stands after a byte; one that is rejected leaves it where it is.
 fn scanner_after(g: Scanner, b: u8) -> Scanner
-    ensures { result ≡ scannerAfter g (scan g b) }
+    ensures { result ≡ scanner_after g (scan g b) }
 {
     let Scanned::Accepted(h) = scanning::scan_byte(g, b) else {
         return g;
@@ -83,7 +83,7 @@ fn undropped(scanner: Scanner) -> Stream
 
 // Where a stream stands after bytes, of which the first may be dropped.
 pub fn after_bytes(s: Stream, bytes: &[u8]) -> Stream
-    ensures { result ≡ afterBytes s bytes.now }
+    ensures { result ≡ after_bytes s bytes.now }
 {
     if bytes.len() == 0 {
         return s;
@@ -97,7 +97,7 @@ pub fn after_bytes(s: Stream, bytes: &[u8]) -> Stream
 
 // How many operands a byte has in a context, after 1D or between items.
 pub fn operands(c: Context, b: u8, extended: bool) -> u8
-    ensures { result ≡ operandsIn c b extended }
+    ensures { result ≡ operands_in c b extended }
 {
     rows::operands_of(c, b, extended)
 }

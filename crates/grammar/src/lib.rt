@@ -1,7 +1,7 @@
 // The grammar of command streams, and the judge that decides it.
 ghost use Rattle.std.specs.Prelude.{◌≡◌};
-ghost use Rattle.grammar.specs.Grammar.{clearedContext};
-ghost use Rattle.grammar.specs.Verdict.{judgeOf};
+ghost use Rattle.grammar.specs.Grammar.{cleared_context};
+ghost use Rattle.grammar.specs.Verdict.{judge_of};
 
 pub mod following;
 mod rows;
@@ -65,7 +65,7 @@ pub enum Verdict {
 
 // No interface, unconfigured, N 1: the context after 00, and at the factory start.
 pub(crate) fn cleared_context() -> Context
-    ensures { result ≡ clearedContext }
+    ensures { result ≡ cleared_context }
 {
     Context {
         interface: Interface::NoInterface,
@@ -76,7 +76,7 @@ pub(crate) fn cleared_context() -> Context
 
 // Judges bytes from a context, item by item: whole, open, or wrong at the first place that can't be continued.
 pub fn judge(c: Context, bytes: &[u8]) -> Verdict
-    ensures { result ≡ judgeOf c bytes.now }
+    ensures { result ≡ judge_of c bytes.now }
 {
     let mut at = c;
     let mut extended = false;

@@ -1,16 +1,16 @@
 // What the command list says of a byte: after 1D, where `extended` is true, and between items.
 ghost use Rattle.std.specs.Prelude.{◌≡◌};
-ghost use Rattle.grammar.specs.Grammar.{interfaceNumber, selected};
-ghost use Rattle.grammar.specs.Scanner.{openingOf};
-ghost use Rattle.grammar.specs.Following.{openingIn, operandsIn};
-ghost use Rattle.grammar.specs.Lookups.{accepts, is_of, needsConfigured, code_of, changeOf};
+ghost use Rattle.grammar.specs.Grammar.{interface_number, selected};
+ghost use Rattle.grammar.specs.Scanner.{opening_of};
+ghost use Rattle.grammar.specs.Following.{opening_in, operands_in};
+ghost use Rattle.grammar.specs.Lookups.{accepts, is_of, needs_configured, code_of, change_of};
 
 use crate::{Context, ContextChange, Interface};
 use codes::{NO_CONFIGURATION, UNKNOWN_COMMAND, WRONG_INTERFACE};
 
 // Whether a byte is a command of an interface.
 fn is_of(i: Interface, b: u8) -> bool
-    ensures { result ≡ is_of i (openingOf b) }
+    ensures { result ≡ is_of i (opening_of b) }
 {
     match i {
         Interface::NoInterface => false,
@@ -21,14 +21,14 @@ fn is_of(i: Interface, b: u8) -> bool
 }
 
 fn needs_configured(b: u8) -> bool
-    ensures { result ≡ needsConfigured (openingOf b) }
+    ensures { result ≡ needs_configured (opening_of b) }
 {
     (b == 0x41) | (b == 0x44) | (b == 0x46) | (b == 0x4B) | (b == 0x4C)
 }
 
 // Whether a byte may begin an item: 00 to 1E are common, the others are the interface's.
 fn may_begin(c: Context, b: u8) -> bool
-    ensures { result ≡ accepts (openingOf b) c }
+    ensures { result ≡ accepts (opening_of b) c }
 {
     if b < 0x1F {
         return true;
@@ -44,7 +44,7 @@ fn may_begin(c: Context, b: u8) -> bool
 
 // Whether a byte is legal in a context: 01's "common, or of its interface", and configured where it must be.
 pub(crate) fn is_legal(c: Context, b: u8, extended: bool) -> bool
-    ensures { result ≡ accepts (openingIn b extended) c }
+    ensures { result ≡ accepts (opening_in b extended) c }
 {
     if extended {
         return ((0x01 <= b) & (b < 0x04)) | ((0x08 <= b) & (b < 0x10));
@@ -53,7 +53,7 @@ pub(crate) fn is_legal(c: Context, b: u8, extended: bool) -> bool
 }
 
 fn interface_number(i: Interface) -> u8
-    ensures { result ≡ interfaceNumber i }
+    ensures { result ≡ interface_number i }
 {
     match i {
         Interface::NoInterface => 0x00,
@@ -72,7 +72,7 @@ fn is_selected(i: Interface, c: Context) -> bool
 
 // The code that the device returns for a byte that is not legal.
 pub(crate) fn code_for(c: Context, b: u8, extended: bool) -> u8
-    ensures { result ≡ code_of (openingIn b extended) c }
+    ensures { result ≡ code_of (opening_in b extended) c }
 {
     if extended {
         return UNKNOWN_COMMAND;
@@ -88,7 +88,7 @@ pub(crate) fn code_for(c: Context, b: u8, extended: bool) -> u8
 
 // How many operands a byte has in a context; 1D's is its extended byte.
 pub(crate) fn operands_of(c: Context, b: u8, extended: bool) -> u8
-    ensures { result ≡ operandsIn c b extended }
+    ensures { result ≡ operands_in c b extended }
 {
     if extended {
         if b == 0x0E {
@@ -107,7 +107,7 @@ pub(crate) fn operands_of(c: Context, b: u8, extended: bool) -> u8
 
 // What a byte's item does to the context.
 pub(crate) fn change_of(b: u8, extended: bool) -> ContextChange
-    ensures { result ≡ changeOf (openingIn b extended) }
+    ensures { result ≡ change_of (opening_in b extended) }
 {
     if extended {
         return ContextChange::Keep;

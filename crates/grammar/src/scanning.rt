@@ -1,14 +1,14 @@
 // The scanner, byte by byte.
 ghost use Rattle.std.specs.Prelude.{◌≡◌};
-ghost use Rattle.grammar.specs.Grammar.{contextAfter};
+ghost use Rattle.grammar.specs.Grammar.{context_after};
 ghost use Rattle.grammar.specs.Scanner.{going, opened, scan};
-ghost use Rattle.grammar.specs.Following.{openingIn};
+ghost use Rattle.grammar.specs.Following.{opening_in};
 
 use crate::{Context, ContextChange, Place, Scanned, Scanner, rows};
 
 // The context after an item whose last byte is b.
 pub(crate) fn context_after(e: ContextChange, b: u8, c: Context) -> Context
-    ensures { result ≡ contextAfter e b c }
+    ensures { result ≡ context_after e b c }
 {
     let i = c.interface;
     match e {
@@ -50,7 +50,7 @@ fn advance(e: ContextChange, n: u8, b: u8, c: Context) -> Scanner
 }
 
 fn open_item(c: Context, b: u8, extended: bool) -> Scanned
-    ensures { result ≡ opened (openingIn b extended) c b }
+    ensures { result ≡ opened (opening_in b extended) c b }
 {
     if !rows::is_legal(c, b, extended) {
         return Scanned::Rejected(rows::code_for(c, b, extended));

@@ -6,32 +6,32 @@ use mathlib.Core.List.{List}
 use native.Mathlib.Omega.{arith}
 use Rattle.wire.specs.Action.{release}
 use Rattle.wire.specs.Sample.{samplings}
-use Rattle.wire.proofs.Samples.{samplings-append}
-use Rattle.packet.specs.Register.{byteBits, zeros}
-use Rattle.lines.specs.Lines.{forEach}
+use Rattle.wire.proofs.Samples.{samplings_append}
+use Rattle.packet.specs.Register.{byte_bits, zeros}
+use Rattle.lines.specs.Lines.{for_each}
 use Rattle.lines.specs.Waves.{UsesTaken, ReadsUsed}
-use Rattle.lines.proofs.Samples.{bit-samples, each-samples, once-same, eight-same}
-use Rattle.i2c_bus.specs.I2c.{i2cBit, i2cSampled, i2cWrite, i2cRead}
+use Rattle.lines.proofs.Samples.{bit_samples, each_samples, once_same, eight_same}
+use Rattle.i2c_bus.specs.I2c.{i2c_bit, i2c_sampled, i2c_write, i2c_read}
 
-bit-takes : (b : ℕ) → samplings (i2cBit b) ≡ 0
+bit_takes : (b : ℕ) → samplings (i2c_bit b) ≡ 0
 unfolding samplings
-bit-takes b = omega (arith, bit-samples release b refl)
+bit_takes b = omega (arith, bit_samples release b refl)
 
-sampled-takes : samplings i2cSampled ≡ 1
+sampled_takes : samplings i2c_sampled ≡ 1
 unfolding samplings
-sampled-takes = refl
+sampled_takes = refl
 
-pub write-takes : (byte : ℕ) (ss : List ℕ) (s : ℕ) → UsesTaken (i2cWrite byte ss s)
-write-takes byte ss s = omega (arith, samplings-append (forEach i2cBit (byteBits byte)) i2cSampled, each-samples i2cBit 0 bit-takes (byteBits byte), sampled-takes)
+pub write_takes : (byte : ℕ) (ss : List ℕ) (s : ℕ) → UsesTaken (i2c_write byte ss s)
+write_takes byte ss s = omega (arith, samplings_append (for_each i2c_bit (byte_bits byte)) i2c_sampled, each_samples i2c_bit 0 bit_takes (byte_bits byte), sampled_takes)
 
-pub read-takes : (answer : ℕ) (ss : List ℕ) (s : ℕ) → UsesTaken (i2cRead answer ss s)
-read-takes answer ss s =
-    omega (arith, samplings-append (forEach (λ _. i2cSampled) (zeros 8)) (i2cBit answer), each-samples (λ _. i2cSampled) 1 (λ _. sampled-takes) (zeros 8), bit-takes answer)
+pub read_takes : (answer : ℕ) (ss : List ℕ) (s : ℕ) → UsesTaken (i2c_read answer ss s)
+read_takes answer ss s =
+    omega (arith, samplings_append (for_each (λ _. i2c_sampled) (zeros 8)) (i2c_bit answer), each_samples (λ _. i2c_sampled) 1 (λ _. sampled_takes) (zeros 8), bit_takes answer)
 
 -- THE SAME SAMPLES
 
-pub write_same : (byte : ℕ) (ss : List ℕ) (m : ℕ) (us : List ℕ) (k : ℕ) → ReadsUsed (i2cWrite byte) ss m us k
-write_same byte = once-same _
+pub write_same : (byte : ℕ) (ss : List ℕ) (m : ℕ) (us : List ℕ) (k : ℕ) → ReadsUsed (i2c_write byte) ss m us k
+write_same byte = once_same _
 
-pub read_same : (answer : ℕ) (ss : List ℕ) (m : ℕ) (us : List ℕ) (k : ℕ) → ReadsUsed (i2cRead answer) ss m us k
-read_same answer = eight-same true _
+pub read_same : (answer : ℕ) (ss : List ℕ) (m : ℕ) (us : List ℕ) (k : ℕ) → ReadsUsed (i2c_read answer) ss m us k
+read_same answer = eight_same true _

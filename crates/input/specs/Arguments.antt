@@ -4,14 +4,14 @@ pub use Rattle.input.specs.declared.arguments.Kind.{Kind}
 use Rattle.input.specs.declared.arguments.Kind.TheVariants as k
 
 -- a byte in front of the first of some words
-unfoldable pub withFirst : ℕ → List (List ℕ) → List (List ℕ)
-withFirst b [] = (b ∷ []) ∷ []
-withFirst b (w ∷ ws) = (b ∷ w) ∷ ws
+unfoldable pub with_first : ℕ → List (List ℕ) → List (List ℕ)
+with_first b [] = (b ∷ []) ∷ []
+with_first b (w ∷ ws) = (b ∷ w) ∷ ws
 
 -- the words of a list, each one but the last followed by a space
-unfoldable pub splitAtSpaces : List ℕ → List (List ℕ)
-splitAtSpaces [] = []
-splitAtSpaces (b ∷ bs) = cond (eqb b 0x20) ([] ∷ splitAtSpaces bs) (withFirst b (splitAtSpaces bs))
+unfoldable pub split_at_spaces : List ℕ → List (List ℕ)
+split_at_spaces [] = []
+split_at_spaces (b ∷ bs) = cond (eqb b 0x20) ([] ∷ split_at_spaces bs) (with_first b (split_at_spaces bs))
 
 -- a word is one of these
 unfoldable pub Among : List ℕ → List (List ℕ) → Type 0
@@ -23,11 +23,11 @@ abbrev pub Tells : Bool → Type 0 → Type 0
 Tells r P = (r ≡ true → P) × (P → r ≡ true)
 
 -- an option starts with `-`
-abbrev pub isOption : List ℕ → Bool
-isOption w = eqb (get_or w 0 0) 0x2D
+abbrev pub is_option : List ℕ → Bool
+is_option w = eqb (get_or w 0 0) 0x2D
 
 -- what makes an argument a name, one of the options, or neither
 abbrev pub IsKind : Kind → List ℕ → List ℕ → Type 0
-IsKind k.Name options w = isOption w ≡ false
-IsKind k.Known options w = Among w (splitAtSpaces options)
-IsKind k.Unknown options w = (isOption w ≡ true) × (Among w (splitAtSpaces options) → ⊥)
+IsKind k.Name options w = is_option w ≡ false
+IsKind k.Known options w = Among w (split_at_spaces options)
+IsKind k.Unknown options w = (is_option w ≡ true) × (Among w (split_at_spaces options) → ⊥)

@@ -1,7 +1,7 @@
 // The arguments of a program: options, which start with `-`, and at most one name of a file. What a word is by its bytes is proved. Which
 // words the arguments are, the contracts of the system's calls don't say, so a function that asks for them has no contract.
 ghost use Rattle.std.specs.Prelude.{◌≡◌};
-ghost use Rattle.input.specs.Arguments.{Among, splitAtSpaces, Tells, isOption, IsKind};
+ghost use Rattle.input.specs.Arguments.{Among, split_at_spaces, Tells, is_option, IsKind};
 
 use libc::{STDERR_FILENO, STDOUT_FILENO};
 
@@ -15,7 +15,7 @@ pub(crate) enum Kind {
 
 // Whether a list of words, each one but the last followed by a space, has a word.
 fn has_word(list: &[u8], word: &[u8]) -> bool
-    ensures { Tells result (Among word.now (splitAtSpaces list.now)) }
+    ensures { Tells result (Among word.now (split_at_spaces list.now)) }
 {
     let mut at: usize = 0;
     while at < list.len() {
@@ -29,7 +29,7 @@ fn has_word(list: &[u8], word: &[u8]) -> bool
 }
 
 fn is_option(word: &[u8]) -> bool
-    ensures { result ≡ isOption word.now }
+    ensures { result ≡ is_option word.now }
 {
     if 0 < word.len() {
         return word[0] == b'-';

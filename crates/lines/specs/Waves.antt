@@ -1,9 +1,9 @@
 -- What a waveform is on the lines and what is measured of it, and the waveforms of single lines and ports (01, "Registers and common
 -- commands"). The measure is declared in src/lib.rt.
 use Rattle.std.specs.Prelude.{ℕ, ◌*◌, ◌≡◌, Bool, List, [], ◌∷◌, ◌++◌, length}
-use Rattle.wire.specs.Action.{Action, action, setLatch, pb7, noLine}
+use Rattle.wire.specs.Action.{Action, action, set_latch, pb7, no_line}
 use Rattle.wire.specs.Sample.{byte_at, samplings, SameFrom}
-use Rattle.lines.specs.Lines.{low, high, levels, byte_of, portActions}
+use Rattle.lines.specs.Lines.{low, high, levels, byte_of, port_actions}
 use Rattle.lines.specs.declared.Measured.{Measured}
 
 -- the actions, the samples used, and the byte that they give
@@ -16,8 +16,8 @@ pub record LineWave : Type 0 where
 abbrev pub measured : ℕ → ℕ → ℕ → Measured
 measured used actions byte = record { used = used; bytes = 4 * actions; byte = byte }
 
-abbrev pub measureOf : LineWave → Measured
-measureOf w = measured w.used (length w.actions) w.byte
+abbrev pub measure_of : LineWave → Measured
+measure_of w = measured w.used (length w.actions) w.byte
 
 -- BY THE SAMPLES, from place s on
 
@@ -31,7 +31,7 @@ once as' ss s = record { actions = as'; used = 1; byte = byte_at ss s }
 
 -- actions that sample eight times and give the byte of the levels, the first of them highest or lowest
 abbrev pub eight : Bool → List Action → List ℕ → ℕ → LineWave
-eight highFirst as' ss s = record { actions = as'; used = 8; byte = byte_of highFirst (levels ss s 8) }
+eight high_first as' ss s = record { actions = as'; used = 8; byte = byte_of high_first (levels ss s 8) }
 
 -- as many samples are used as actions sample
 abbrev pub UsesTaken : LineWave → Type 0
@@ -57,16 +57,16 @@ sampling verb line ss s = once (action verb line 0 ∷ []) ss s
 
 -- reinit: "all directions and latches 0"
 abbrev pub reinit : LineWave
-reinit = quiet (portActions 0 0 0 0 0 0)
+reinit = quiet (port_actions 0 0 0 0 0 0)
 
 -- reinit, and then a line driven high
-abbrev pub reinitHigh : ℕ → LineWave
-reinitHigh line = quiet (reinit.actions ++ (high line ∷ []))
+abbrev pub reinit_high : ℕ → LineWave
+reinit_high line = quiet (reinit.actions ++ (high line ∷ []))
 
 -- a port's latch written, a wait, and the latch written again
-abbrev pub portPulse : ℕ → ℕ → ℕ → ℕ → ℕ → LineWave
-portPulse line first unit wait last = quiet (action setLatch line first ∷ action unit noLine wait ∷ action setLatch line last ∷ [])
+abbrev pub port_pulse : ℕ → ℕ → ℕ → ℕ → ℕ → LineWave
+port_pulse line first unit wait last = quiet (action set_latch line first ∷ action unit no_line wait ∷ action set_latch line last ∷ [])
 
 -- PB7 low, a wait, and PB7 high
-abbrev pub pb7Pulse : ℕ → ℕ → LineWave
-pb7Pulse unit wait = quiet (low pb7 ∷ action unit noLine wait ∷ high pb7 ∷ [])
+abbrev pub pb7_pulse : ℕ → ℕ → LineWave
+pb7_pulse unit wait = quiet (low pb7 ∷ action unit no_line wait ∷ high pb7 ∷ [])

@@ -2,7 +2,7 @@
 // waveforms of single lines and ports.
 ghost use Rattle.std.specs.Prelude.{◌≡◌, ◌≤◌, length};
 ghost use Rattle.wire.specs.Sample.{byte_at};
-ghost use Rattle.lines.specs.Lines.{verbFor, levels, byte_of};
+ghost use Rattle.lines.specs.Lines.{verb_for, levels, byte_of};
 ghost use Rattle.lines.specs.Waves.{measured};
 
 pub mod ports;
@@ -59,7 +59,7 @@ pub fn eight(actions: u8, samples: &[u8], from: usize, high: bool) -> Measured
 
 // The verb for a bit, where the one for 1 is release on an open line and high on a driven one.
 pub fn verb_for(one: u8, bit: u8) -> u8
-    ensures { result ≡ verbFor one bit }
+    ensures { result ≡ verb_for one bit }
 {
     if bit == 0 { wire::VERB_DRIVE_LOW } else { one }
 }

@@ -1,9 +1,9 @@
 // Direction and latch of the ports, and reinit: what it measures, and its writer.
 ghost use Rattle.std.specs.Prelude.{◌≡◌, ◌≤◌, [], ◌∷◌, length};
-ghost use Rattle.wire.specs.Action.{action, bytes_of, setDirection, setLatch};
+ghost use Rattle.wire.specs.Action.{action, bytes_of, set_direction, set_latch};
 ghost use Rattle.wire.specs.Buffer.{Written};
-ghost use Rattle.lines.specs.Lines.{portActions};
-ghost use Rattle.lines.specs.Waves.{measureOf, reinit, reinitHigh};
+ghost use Rattle.lines.specs.Lines.{port_actions};
+ghost use Rattle.lines.specs.Waves.{measure_of, reinit, reinit_high};
 
 use crate::Measured;
 
@@ -15,7 +15,7 @@ const ACTIONS: u8 = 3 * PORT_ACTIONS;
 // A port's direction and then its latch.
 fn put_port(out: &mut [u8], port: u8, direction: u8, latch: u8) -> usize
     requires { 8 ≤ length out.old }
-    ensures { Written out.old 0 (bytes_of (action setDirection port direction ∷ action setLatch port latch ∷ [])) out.new result }
+    ensures { Written out.old 0 (bytes_of (action set_direction port direction ∷ action set_latch port latch ∷ [])) out.new result }
 {
     let a = wire::put_action(out, wire::VERB_DIRECTION, port, direction as u16);
     a + wire::put_action(&mut out[a..], wire::VERB_LATCH, port, latch as u16)
@@ -31,8 +31,8 @@ pub fn put_ports(
     ddrd: u8,
     portd: u8,
 ) -> usize
-    requires { length (bytes_of (portActions ddrb portb ddrc portc ddrd portd)) ≤ length out.old }
-    ensures { Written out.old 0 (bytes_of (portActions ddrb portb ddrc portc ddrd portd)) out.new result }
+    requires { length (bytes_of (port_actions ddrb portb ddrc portc ddrd portd)) ≤ length out.old }
+    ensures { Written out.old 0 (bytes_of (port_actions ddrb portb ddrc portc ddrd portd)) out.new result }
 {
     let c = put_port(out, wire::LINE_PORT_B, ddrb, portb);
     let d = c + put_port(&mut out[c..], wire::LINE_PORT_C, ddrc, portc);
@@ -41,7 +41,7 @@ pub fn put_ports(
 
 // Reinit: all directions and latches 0.
 pub fn measure_reinit() -> Measured
-    ensures { result ≡ measureOf reinit }
+    ensures { result ≡ measure_of reinit }
 {
     crate::quiet(ACTIONS)
 }
@@ -56,15 +56,15 @@ pub fn put_reinit(out: &mut [u8]) -> usize
 
 // Reinit, and then a line driven high.
 pub fn measure_reinit_high(line: u8) -> Measured
-    ensures { result ≡ measureOf (reinitHigh line) }
+    ensures { result ≡ measure_of (reinit_high line) }
 {
     crate::quiet(ACTIONS + 1)
 }
 
 // Writes reinit's actions and the line's, for which the caller shows the room.
 pub fn put_reinit_high(out: &mut [u8], line: u8) -> usize
-    requires { length (bytes_of (reinitHigh line).actions) ≤ length out.old }
-    ensures { Written out.old 0 (bytes_of (reinitHigh line).actions) out.new result }
+    requires { length (bytes_of (reinit_high line).actions) ≤ length out.old }
+    ensures { Written out.old 0 (bytes_of (reinit_high line).actions) out.new result }
 {
     let at = put_reinit(out);
     at + wire::put_action(&mut out[at..], wire::VERB_DRIVE_HIGH, line, 0)

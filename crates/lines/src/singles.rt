@@ -2,7 +2,7 @@
 ghost use Rattle.std.specs.Prelude.{◌≡◌, ◌≤◌, length};
 ghost use Rattle.wire.specs.Action.{bytes_of};
 ghost use Rattle.wire.specs.Buffer.{Written};
-ghost use Rattle.lines.specs.Waves.{measureOf, single, sampling};
+ghost use Rattle.lines.specs.Waves.{measure_of, single, sampling};
 
 use crate::Measured;
 
@@ -10,7 +10,7 @@ const ACTIONS: u8 = 1;
 
 // One action on a line or a port.
 pub fn measure_single(verb: u8, line: u8, value: u8) -> Measured
-    ensures { result ≡ measureOf (single verb line value) }
+    ensures { result ≡ measure_of (single verb line value) }
 {
     crate::quiet(ACTIONS)
 }
@@ -25,7 +25,7 @@ pub fn put_single(out: &mut [u8], verb: u8, line: u8, value: u8) -> usize
 
 // One sample of a line or a port; a single action writes it.
 pub fn measure_sample(verb: u8, line: u8, samples: &[u8], from: usize) -> Measured
-    ensures { result ≡ measureOf (sampling verb line samples.now from) }
+    ensures { result ≡ measure_of (sampling verb line samples.now from) }
 {
     crate::once(ACTIONS, samples, from)
 }

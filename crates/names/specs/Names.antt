@@ -96,8 +96,8 @@ spi =
     []
 
 -- 2.2.3
-abbrev pub oneWire : List Row
-oneWire =
+abbrev pub one_wire : List Row
+one_wire =
     row "SendReset_1W" 0x60 ∷
     row "SendByte_1W" 0x61 ∷
     row "ReadByte_1W" 0x62 ∷
@@ -112,42 +112,42 @@ oneWire =
     []
 
 abbrev pub rows : List Row
-rows = common ++ extended ++ i2c ++ spi ++ oneWire
+rows = common ++ extended ++ i2c ++ spi ++ one_wire
 
-abbrev pub rowCount : ℕ
-rowCount = 74
+abbrev pub row_count : ℕ
+row_count = 74
 
 -- the width of a name, padded with blanks
-abbrev pub nameWidth : ℕ
-nameWidth = 24
+abbrev pub name_width : ℕ
+name_width = 24
 
 abbrev pub names : List (List ℕ)
-names = map (λ (r : Row). padded nameWidth (bytes r.name)) rows
+names = map (λ (r : Row). padded name_width (bytes r.name)) rows
 
 abbrev pub codes : List ℕ
 codes = map (λ (r : Row). r.code) rows
 
 unfoldable pub name_at : ℕ → List ℕ
-name_at n = get_or names n (blanks nameWidth)
+name_at n = get_or names n (blanks name_width)
 
 unfoldable pub code_at : ℕ → ℕ
 code_at n = get_or codes n 0
 
-abbrev pub isExtended : ℕ → Bool
-isExtended n = leb 31 n && leb n 41
+abbrev pub is_extended : ℕ → Bool
+is_extended n = leb 31 n && leb n 41
 
--- THEOREM (proofs/Rows.antt, `extended-rows`): those are the rows of `extended`
+-- THEOREM (proofs/Rows.antt, `extended_rows`): those are the rows of `extended`
 abbrev pub ExtendedRows : Type 0
 ExtendedRows = take 11 (drop 31 rows) ≡ extended
 
 -- the first row from the n-th on that passes a test; the table's end if there is none
-unfoldable pub firstWhere : {A : Type 0} → (ℕ → A → Bool) → ℕ → List A → ℕ
-firstWhere test n [] = n
-firstWhere test n (x ∷ xs) = cond (test n x) n (firstWhere test (suc n) xs)
+unfoldable pub first_where : {A : Type 0} → (ℕ → A → Bool) → ℕ → List A → ℕ
+first_where test n [] = n
+first_where test n (x ∷ xs) = cond (test n x) n (first_where test (suc n) xs)
 
 -- whether the n-th row has a code and is extended or not
-abbrev pub hasCode : ℕ → Bool → ℕ → ℕ → Bool
-hasCode c e n x = eqb x c && beq (isExtended n) e
+abbrev pub has_code : ℕ → Bool → ℕ → ℕ → Bool
+has_code c e n x = eqb x c && beq (is_extended n) e
 
-unfoldable pub rowCoded : ℕ → Bool → ℕ
-rowCoded c e = firstWhere (hasCode c e) 0 codes
+unfoldable pub row_coded : ℕ → Bool → ℕ
+row_coded c e = first_where (has_code c e) 0 codes

@@ -1,6 +1,6 @@
 // The commands of the list 001 by name and code: 74 rows in 01's order. 01 leaves out the extended commands 00 and 04 to 07.
 ghost use Rattle.std.specs.Prelude.{◌≡◌};
-ghost use Rattle.names.specs.Names.{name_at, code_at, isExtended, rowCoded};
+ghost use Rattle.names.specs.Names.{name_at, code_at, is_extended, row_coded};
 
 use crate::tables::{CODES, NAMES};
 
@@ -38,14 +38,14 @@ pub fn code(row: usize) -> u8
 
 // Whether a row's command comes after 1D.
 pub fn extended(row: usize) -> bool
-    ensures { result ≡ isExtended row }
+    ensures { result ≡ is_extended row }
 {
     (FIRST_EXTENDED <= row) & (row <= LAST_EXTENDED)
 }
 
 // The row of a code, common or extended; ROWS if it has none.
 pub fn find(code: u8, is_extended: bool) -> usize
-    ensures { result ≡ rowCoded code is_extended }
+    ensures { result ≡ row_coded code is_extended }
 {
     let mut row: usize = 0;
     while row < ROWS {

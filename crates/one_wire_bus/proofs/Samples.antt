@@ -6,47 +6,47 @@ use mathlib.Core.List.{List}
 use native.Mathlib.Omega.{arith}
 use lib.ListN.{get_or, take}
 use Rattle.wire.specs.Action.{release}
-use Rattle.wire.specs.Sample.{samplesIn, samplings}
-use Rattle.wire.proofs.Samples.{samplings-append}
+use Rattle.wire.specs.Sample.{samples_in, samplings}
+use Rattle.wire.proofs.Samples.{samplings_append}
 use Rattle.packet.specs.Register.{zeros}
-use Rattle.lines.specs.Lines.{forEach}
+use Rattle.lines.specs.Lines.{for_each}
 use Rattle.lines.specs.Waves.{UsesTaken, ReadsUsed}
-use Rattle.lines.proofs.Samples.{bit-samples, each-samples, once-same, eight-same}
+use Rattle.lines.proofs.Samples.{bit_samples, each_samples, once_same, eight_same}
 use Rattle.one_wire_bus.specs.declared.Waits.{Waits}
-use Rattle.one_wire_bus.specs.OneWire.{resetWaits, writeWaits, readWaits, sampleSlot, writeSlot, low_first, writeSlots, oneWireReset, oneWireWrite, oneWireRead, oneWireReadBit}
+use Rattle.one_wire_bus.specs.OneWire.{reset_waits, write_waits, read_waits, sample_slot, write_slot, low_first, write_slots, one_wire_reset, one_wire_write, one_wire_read, one_wire_read_bit}
 
-slot-takes : (w : Waits) → samplings (sampleSlot w) ≡ 1
+slot_takes : (w : Waits) → samplings (sample_slot w) ≡ 1
 unfolding samplings
-slot-takes w = refl
+slot_takes w = refl
 
-pub reset-takes : (ts ss : List ℕ) (s : ℕ) → UsesTaken (oneWireReset ts ss s)
-reset-takes ts ss s = sym (slot-takes (resetWaits ts))
+pub reset_takes : (ts ss : List ℕ) (s : ℕ) → UsesTaken (one_wire_reset ts ss s)
+reset_takes ts ss s = sym (slot_takes (reset_waits ts))
 
-pub read-takes : (ts ss : List ℕ) (s : ℕ) → UsesTaken (oneWireRead ts ss s)
-read-takes ts ss s = omega (arith, each-samples (λ _. sampleSlot (readWaits ts)) 1 (λ _. slot-takes (readWaits ts)) (zeros 8))
+pub read_takes : (ts ss : List ℕ) (s : ℕ) → UsesTaken (one_wire_read ts ss s)
+read_takes ts ss s = omega (arith, each_samples (λ _. sample_slot (read_waits ts)) 1 (λ _. slot_takes (read_waits ts)) (zeros 8))
 
-pub read-bit-takes : (ts ss : List ℕ) (s : ℕ) → UsesTaken (oneWireReadBit ts ss s)
-read-bit-takes ts ss s = sym (slot-takes (readWaits ts))
+pub read_bit_takes : (ts ss : List ℕ) (s : ℕ) → UsesTaken (one_wire_read_bit ts ss s)
+read_bit_takes ts ss s = sym (slot_takes (read_waits ts))
 
-bit-takes : (w : Waits) (fifth : ℕ) → samplesIn fifth ≡ 0 → (b : ℕ) → samplings (writeSlot w fifth b) ≡ 0
+bit_takes : (w : Waits) (fifth : ℕ) → samples_in fifth ≡ 0 → (b : ℕ) → samplings (write_slot w fifth b) ≡ 0
 unfolding samplings
-bit-takes w fifth h b = omega (arith, bit-samples release b refl)
+bit_takes w fifth h b = omega (arith, bit_samples release b refl)
 
-pub write-takes : (ts : List ℕ) (n fifth byte : ℕ) → samplesIn fifth ≡ 0 → UsesTaken (oneWireWrite ts n fifth byte)
-unfolding writeSlots
-write-takes ts n fifth byte h =
-    let w = writeWaits ts in
+pub write_takes : (ts : List ℕ) (n fifth byte : ℕ) → samples_in fifth ≡ 0 → UsesTaken (one_wire_write ts n fifth byte)
+unfolding write_slots
+write_takes ts n fifth byte h =
+    let w = write_waits ts in
     let bs = take (n - 1) (low_first byte) in
     let last = get_or (low_first byte) (n - 1) 0 in
-    omega (arith, samplings-append (forEach (writeSlot w release) bs) (writeSlot w fifth last), each-samples (writeSlot w release) 0 (bit-takes w release refl) bs, bit-takes w fifth h last)
+    omega (arith, samplings_append (for_each (write_slot w release) bs) (write_slot w fifth last), each_samples (write_slot w release) 0 (bit_takes w release refl) bs, bit_takes w fifth h last)
 
 -- THE SAME SAMPLES
 
-pub reset-same : (ts ss : List ℕ) (m : ℕ) (us : List ℕ) (k : ℕ) → ReadsUsed (oneWireReset ts) ss m us k
-reset-same ts = once-same _
+pub reset_same : (ts ss : List ℕ) (m : ℕ) (us : List ℕ) (k : ℕ) → ReadsUsed (one_wire_reset ts) ss m us k
+reset_same ts = once_same _
 
-pub read_same : (ts ss : List ℕ) (m : ℕ) (us : List ℕ) (k : ℕ) → ReadsUsed (oneWireRead ts) ss m us k
-read_same ts = eight-same false _
+pub read_same : (ts ss : List ℕ) (m : ℕ) (us : List ℕ) (k : ℕ) → ReadsUsed (one_wire_read ts) ss m us k
+read_same ts = eight_same false _
 
-pub read-bit-same : (ts ss : List ℕ) (m : ℕ) (us : List ℕ) (k : ℕ) → ReadsUsed (oneWireReadBit ts) ss m us k
-read-bit-same ts = once-same _
+pub read_bit_same : (ts ss : List ℕ) (m : ℕ) (us : List ℕ) (k : ℕ) → ReadsUsed (one_wire_read_bit ts) ss m us k
+read_bit_same ts = once_same _

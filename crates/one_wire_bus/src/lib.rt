@@ -2,9 +2,9 @@
 ghost use Rattle.std.specs.Prelude.{◌≡◌, ◌+◌, ◌-◌, ◌≤◌, ◌<◌, [], ◌∷◌, length, take};
 ghost use Rattle.wire.specs.Action.{action, bytes_of, release, dq};
 ghost use Rattle.wire.specs.Buffer.{Written};
-ghost use Rattle.lines.specs.Lines.{forEach, waits};
-ghost use Rattle.lines.specs.Waves.{measureOf};
-ghost use Rattle.one_wire_bus.specs.OneWire.{groupWaits, resetWaits, writeWaits, readWaits, slot, sampleSlot, writeSlot, low_first, read_slots, oneWireReset, oneWireWrite, oneWireRead, oneWireReadBit};
+ghost use Rattle.lines.specs.Lines.{for_each, waits};
+ghost use Rattle.lines.specs.Waves.{measure_of};
+ghost use Rattle.one_wire_bus.specs.OneWire.{group_waits, reset_waits, write_waits, read_waits, slot, sample_slot, write_slot, low_first, read_slots, one_wire_reset, one_wire_write, one_wire_read, one_wire_read_bit};
 
 use lines::Measured;
 use registers::TIMINGS;
@@ -34,7 +34,7 @@ fn span(from: u8, to: u8) -> u16
 // The waits of a group: the differences of its three bytes and 255, in a unit of so many µs.
 fn group_waits(unit: u16, a: u8, b: u8, c: u8) -> Waits
     requires { unit ≤ 8 }
-    ensures { result ≡ groupWaits unit a b c }
+    ensures { result ≡ group_waits unit a b c }
 {
     Waits {
         first: unit * span(a, b),
@@ -71,14 +71,14 @@ fn put_slot(out: &mut [u8], w: Waits, third: u8, fifth: u8) -> usize
 
 // The waits of the write group.
 fn write_waits(ts: [u8; TIMINGS]) -> Waits
-    ensures { result ≡ writeWaits ts }
+    ensures { result ≡ write_waits ts }
 {
     group_waits(1, ts[3], ts[4], ts[5])
 }
 
 // The waits of the read group.
 fn read_waits(ts: [u8; TIMINGS]) -> Waits
-    ensures { result ≡ readWaits ts }
+    ensures { result ≡ read_waits ts }
 {
     group_waits(1, ts[6], ts[7], ts[8])
 }
@@ -86,7 +86,7 @@ fn read_waits(ts: [u8; TIMINGS]) -> Waits
 // A slot that samples, by the three bytes of its group and the unit of its waits.
 fn put_sampled(out: &mut [u8], unit: u16, a: u8, b: u8, c: u8) -> usize
     requires { (unit ≤ 8) × (24 ≤ length out.old) }
-    ensures { Written out.old 0 (bytes_of (sampleSlot (groupWaits unit a b c))) out.new result }
+    ensures { Written out.old 0 (bytes_of (sample_slot (group_waits unit a b c))) out.new result }
 {
     let w = group_waits(unit, a, b, c);
     put_slot(out, w, RELEASE, SAMPLE)
@@ -94,23 +94,23 @@ fn put_sampled(out: &mut [u8], unit: u16, a: u8, b: u8, c: u8) -> usize
 
 // 60: a reset, a slot of the reset group that samples.
 pub fn measure_reset(ts: [u8; TIMINGS], samples: &[u8], from: usize) -> Measured
-    ensures { result ≡ measureOf (oneWireReset ts samples.now from) }
+    ensures { result ≡ measure_of (one_wire_reset ts samples.now from) }
 {
     lines::once(SLOT_ACTIONS, samples, from)
 }
 
 // Writes a reset's actions, for which the caller shows the room.
 pub fn put_reset(out: &mut [u8], ts: [u8; TIMINGS]) -> usize
-    requires { length (bytes_of (sampleSlot (resetWaits ts))) ≤ length out.old }
-    ensures { Written out.old 0 (bytes_of (sampleSlot (resetWaits ts))) out.new result }
+    requires { length (bytes_of (sample_slot (reset_waits ts))) ≤ length out.old }
+    ensures { Written out.old 0 (bytes_of (sample_slot (reset_waits ts))) out.new result }
 {
     put_sampled(out, 8, ts[0], ts[1], ts[2])
 }
 
 // The low n bits of a byte, low bit first, each in a slot that ends released.
 fn put_bits(out: &mut [u8], w: Waits, n: u8, byte: u8) -> usize
-    requires { (n < 8) × (0 + length (bytes_of (forEach (writeSlot w release) (take n (low_first byte)))) ≤ length out.old) }
-    ensures { Written out.old 0 (bytes_of (forEach (writeSlot w release) (take n (low_first byte)))) out.new result }
+    requires { (n < 8) × (0 + length (bytes_of (for_each (write_slot w release) (take n (low_first byte)))) ≤ length out.old) }
+    ensures { Written out.old 0 (bytes_of (for_each (write_slot w release) (take n (low_first byte)))) out.new result }
 {
     let mut at: usize = 0;
     let mut i: u8 = 0;
@@ -126,15 +126,15 @@ fn put_bits(out: &mut [u8], w: Waits, n: u8, byte: u8) -> usize
 // The low n bits of a byte, low bit first; the last slot's fifth action has the verb given. The caller shows that n is 1 to 8.
 pub fn measure_write(ts: [u8; TIMINGS], n: u8, fifth: u8, byte: u8) -> Measured
     requires { (1 ≤ n) × (n ≤ 8) }
-    ensures { result ≡ measureOf (oneWireWrite ts n fifth byte) }
+    ensures { result ≡ measure_of (one_wire_write ts n fifth byte) }
 {
     lines::quiet(n * SLOT_ACTIONS)
 }
 
 // Writes the actions of n bits written, for which the caller shows the room and that n is 1 to 8.
 pub fn put_write(out: &mut [u8], ts: [u8; TIMINGS], n: u8, fifth: u8, byte: u8) -> usize
-    requires { ((1 ≤ n) × (n ≤ 8)) × (length (bytes_of (oneWireWrite ts n fifth byte).actions) ≤ length out.old) }
-    ensures { Written out.old 0 (bytes_of (oneWireWrite ts n fifth byte).actions) out.new result }
+    requires { ((1 ≤ n) × (n ≤ 8)) × (length (bytes_of (one_wire_write ts n fifth byte).actions) ≤ length out.old) }
+    ensures { Written out.old 0 (bytes_of (one_wire_write ts n fifth byte).actions) out.new result }
 {
     let w = write_waits(ts);
     let at = put_bits(out, w, n - 1, byte);
@@ -147,15 +147,15 @@ const READ_ACTIONS: u8 = 8 * SLOT_ACTIONS;
 // 62: a byte read, low bit first. The caller shows that the mark is not past the samples' end.
 pub fn measure_read(ts: [u8; TIMINGS], samples: &[u8], from: usize) -> Measured
     requires { from ≤ length samples.now }
-    ensures { result ≡ measureOf (oneWireRead ts samples.now from) }
+    ensures { result ≡ measure_of (one_wire_read ts samples.now from) }
 {
     lines::eight(READ_ACTIONS, samples, from, false)
 }
 
 // Writes the actions of a byte read, for which the caller shows the room.
 pub fn put_read(out: &mut [u8], ts: [u8; TIMINGS]) -> usize
-    requires { length (bytes_of (read_slots (readWaits ts))) ≤ length out.old }
-    ensures { Written out.old 0 (bytes_of (read_slots (readWaits ts))) out.new result }
+    requires { length (bytes_of (read_slots (read_waits ts))) ≤ length out.old }
+    ensures { Written out.old 0 (bytes_of (read_slots (read_waits ts))) out.new result }
 {
     let w = read_waits(ts);
     let mut at: usize = 0;
@@ -170,15 +170,15 @@ pub fn put_read(out: &mut [u8], ts: [u8; TIMINGS]) -> usize
 
 // 64: a bit read.
 pub fn measure_read_bit(ts: [u8; TIMINGS], samples: &[u8], from: usize) -> Measured
-    ensures { result ≡ measureOf (oneWireReadBit ts samples.now from) }
+    ensures { result ≡ measure_of (one_wire_read_bit ts samples.now from) }
 {
     lines::once(SLOT_ACTIONS, samples, from)
 }
 
 // Writes the actions of a bit read, for which the caller shows the room.
 pub fn put_read_bit(out: &mut [u8], ts: [u8; TIMINGS]) -> usize
-    requires { length (bytes_of (sampleSlot (readWaits ts))) ≤ length out.old }
-    ensures { Written out.old 0 (bytes_of (sampleSlot (readWaits ts))) out.new result }
+    requires { length (bytes_of (sample_slot (read_waits ts))) ≤ length out.old }
+    ensures { Written out.old 0 (bytes_of (sample_slot (read_waits ts))) out.new result }
 {
     put_sampled(out, 1, ts[6], ts[7], ts[8])
 }

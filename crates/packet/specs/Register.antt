@@ -2,13 +2,13 @@
 use Rattle.std.specs.Prelude.{ℕ, zero, suc, ◌+◌, ◌*◌, ◌/◌, ◌%◌, List, [], ◌∷◌, ◌++◌, take, drop, replicate}
 
 -- a byte's bits, highest first
-unfoldable pub byteBits : ℕ → List ℕ
-byteBits b = b / 128 % 2 ∷ b / 64 % 2 ∷ b / 32 % 2 ∷ b / 16 % 2 ∷ b / 8 % 2 ∷ b / 4 % 2 ∷ b / 2 % 2 ∷ b % 2 ∷ []
+unfoldable pub byte_bits : ℕ → List ℕ
+byte_bits b = b / 128 % 2 ∷ b / 64 % 2 ∷ b / 32 % 2 ∷ b / 16 % 2 ∷ b / 8 % 2 ∷ b / 4 % 2 ∷ b / 2 % 2 ∷ b % 2 ∷ []
 
 -- a register's bits, highest first: those of REG0, of REG1 and so on
 unfoldable pub bits : List ℕ → List ℕ
 bits [] = []
-bits (b ∷ r) = byteBits b ++ bits r
+bits (b ∷ r) = byte_bits b ++ bits r
 
 -- the number whose bits follow those of v, highest first
 unfoldable pub number : ℕ → List ℕ → ℕ

@@ -2,7 +2,7 @@
 -- width in bits, high is bit 2 of CONFIG_SPI, rs the bits received, one for each that is sent.
 use Rattle.std.specs.Prelude.{ℕ, ◌-◌, ◌/◌, ◌≡◌, Bool, cond, List, ◌++◌, length, take, drop}
 use Rattle.packet.specs.Register.{bits, register, zeros}
-use Rattle.packet.specs.Packet.{kept, order, sent, bitsReceived}
+use Rattle.packet.specs.Packet.{kept, order, sent, bits_received}
 
 -- the register's bits in the order on the wire, and behind them those received
 abbrev pub passing : Bool → List ℕ → List ℕ → List ℕ
@@ -20,8 +20,8 @@ lowered w n high bs = cond high bs (take w (zeros (w - n) ++ bs))
 abbrev pub exchanged : ℕ → Bool → List ℕ → List ℕ → List ℕ
 exchanged w high rs r = register (w / 8) (kept w (length rs) (lowered w (length rs) high (shifted high rs (bits r))))
 
--- THEOREM (proofs/Shifts.antt, `exchange-right`): what leaves is what 01 has sent, and what then stands in the register is what
+-- THEOREM (proofs/Shifts.antt, `exchange_right`): what leaves is what 01 has sent, and what then stands in the register is what
 -- 01 has received, whatever stood there before
 pub record Exchanges (w : ℕ) (high : Bool) (rs r : List ℕ) : Type 0 where
   pub leaves : take (length rs) (passing high rs (bits r)) ≡ sent (length rs) high r
-  pub holds : exchanged w high rs r ≡ register (w / 8) (bitsReceived w high rs)
+  pub holds : exchanged w high rs r ≡ register (w / 8) (bits_received w high rs)

@@ -2,7 +2,7 @@
 // of CONFIG_SPI.
 ghost use Rattle.std.specs.Prelude.{◌≡◌, true, cond, ◌+◌, ◌-◌, ◌/◌, ◌%◌, ◌^◌, ◌<◌, ◌≤◌, min, [], ◌∷◌, get_or, length};
 ghost use Rattle.packet.specs.Register.{bits};
-ghost use Rattle.packet.specs.Packet.{width, registerBytes, sizeRegister, size_of, packetBytes, fromHeld, cleared, aligned, loaded, sentAt, low_bytes};
+ghost use Rattle.packet.specs.Packet.{width, register_bytes, size_register, size_of, packet_bytes, from_held, cleared, aligned, loaded, sent_at, low_bytes};
 ghost use Rattle.wire.specs.Buffer.{Written};
 
 // The register's size in bits: the one place of this number in the code.
@@ -15,7 +15,7 @@ pub type Register = [u8; BYTES];
 
 // The size register that a size operand gives.
 pub fn size_register(operand: u8) -> u8
-    ensures { result ≡ sizeRegister width operand }
+    ensures { result ≡ size_register width operand }
 {
     let w = WIDTH as u16;
     ((operand as u16 + (w - 1)) % w) as u8
@@ -30,7 +30,7 @@ pub fn size_of(operand: u8) -> u8
 
 // How many bytes a packet of n bits takes.
 pub fn bytes_for(n: u8) -> u8
-    ensures { result ≡ packetBytes n }
+    ensures { result ≡ packet_bytes n }
 {
     ((n as u16 + 7) / 8) as u8
 }
@@ -47,7 +47,7 @@ pub fn above_byte(n: u8) -> u8
 
 // The register whose lowest byte is the first one held, and so on upward; 0 where none is held.
 pub fn load(held: &[u8]) -> Register
-    ensures { result ≡ fromHeld registerBytes held.now }
+    ensures { result ≡ from_held register_bytes held.now }
 {
     let mut q = [0u8; BYTES];
     let mut i: usize = 0;
@@ -152,7 +152,7 @@ pub fn place_of(step: u8, n: u8, high: bool) -> u8
 // The bit that is sent at a step counted from 0. The caller shows that the register has so many bits.
 pub fn bit_within(r: Register, step: u8, high: bool) -> u8
     requires { step < width }
-    ensures { (result ≡ sentAt high r step) × (result < 2) }
+    ensures { (result ≡ sent_at high r step) × (result < 2) }
 {
     let place = place_of(step, WIDTH, high);
     bit_at(r, place)
@@ -161,7 +161,7 @@ pub fn bit_within(r: Register, step: u8, high: bool) -> u8
 // The byte whose bits are sent in the eight steps from a multiple of eight on. The caller shows that the register has so many bits.
 pub fn byte_to_send(r: Register, step: u8, high: bool) -> u8
     requires { step < width }
-    ensures { result ≡ get_or r (cond high (step / 8) (registerBytes - 1 - step / 8)) 0 }
+    ensures { result ≡ get_or r (cond high (step / 8) (register_bytes - 1 - step / 8)) 0 }
 {
     let i = place_of(step / 8, BYTES as u8, high) as usize;
     r[i]
@@ -170,7 +170,7 @@ pub fn byte_to_send(r: Register, step: u8, high: bool) -> u8
 // The bit that is sent at a step of a byte. The caller shows that the step is one of its eight.
 pub fn bit_of_byte(b: u8, step: u8, high: bool) -> u8
     requires { step < 8 }
-    ensures { (result ≡ sentAt high (b ∷ []) step) × (result < 2) }
+    ensures { (result ≡ sent_at high (b ∷ []) step) × (result < 2) }
 {
     let place = place_of(step, 8, high);
     (b >> (7 - place)) % 2
@@ -178,7 +178,7 @@ pub fn bit_of_byte(b: u8, step: u8, high: bool) -> u8
 
 // How many low bytes of the register hold n bits.
 fn low_count(n: u8) -> usize
-    ensures { result ≡ min (packetBytes n) registerBytes }
+    ensures { result ≡ min (packet_bytes n) register_bytes }
 {
     let count = bytes_for(n) as usize;
     if BYTES < count {
@@ -189,7 +189,7 @@ fn low_count(n: u8) -> usize
 
 // How many bytes `put_low` writes.
 pub fn low_size(r: Register, n: u8) -> usize
-    ensures { (result ≡ length (low_bytes n r)) × (result ≤ registerBytes) }
+    ensures { (result ≡ length (low_bytes n r)) × (result ≤ register_bytes) }
 {
     low_count(n)
 }

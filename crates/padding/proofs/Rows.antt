@@ -6,7 +6,7 @@ use mathlib.Core.List.{List, [], ◌∷◌}
 use lib.ListN.{length, get_or}
 
 -- within a table it does not matter what stands past it
-pub getD-within : {A : Type 0} (l : List A) (n : ℕ) (d e : A) → n < length l → get_or l n d ≡ get_or l n e
-getD-within [] n d e h = absurd (not-suc-le-zero h)
-getD-within (x ∷ xs) zero d e h = refl
-getD-within (x ∷ xs) (suc n) d e h = getD-within xs n d e (le_of_suc-le-suc h)
+pub get_d_within : {A : Type 0} (l : List A) (n : ℕ) (d e : A) → n < length l → get_or l n d ≡ get_or l n e
+get_d_within [] n d e h = absurd (not-suc-le-zero h)
+get_d_within (x ∷ xs) zero d e h = refl
+get_d_within (x ∷ xs) (suc n) d e h = get_d_within xs n d e (le_of_suc-le-suc h)

@@ -10,26 +10,26 @@ pub use Rattle.records.specs.declared.contents.Content.{Content}
 pub use Rattle.records.specs.declared.contents.Content.TheVariants as c
 
 -- A FAULT'S BODY is "one byte of 81, 82, 83 hex": frame, overrun, parity
-abbrev pub isFault : ℕ → Bool
-isFault code = leb frame code && leb code parity
+abbrev pub is_fault : ℕ → Bool
+is_fault code = leb frame code && leb code parity
 
-abbrev pub oneFault : List ℕ → Bool
-oneFault body = cond (eqb (length body) 1) (isFault (get_or body 0 0)) false
+abbrev pub one_fault : List ℕ → Bool
+one_fault body = cond (eqb (length body) 1) (is_fault (get_or body 0 0)) false
 
-abbrev pub faultOf : ℕ → Fault
-faultOf code = cond (eqb code frame) k.Frame (cond (eqb code overrun) k.Overrun k.Parity)
+abbrev pub fault_of : ℕ → Fault
+fault_of code = cond (eqb code frame) k.Frame (cond (eqb code overrun) k.Overrun k.Parity)
 
 -- A BODY BY ITS KIND: events, received bytes or a line fault; samples; "a fault body is not one byte of 81, 82, 83 hex" is 9,
 -- "unknown kind" 8
-abbrev pub contentOf : ℕ → List ℕ → Content
-contentOf kind body =
+abbrev pub content_of : ℕ → List ℕ → Content
+content_of kind body =
     cond (eqb kind 1) (c.Events false)
-    (cond (eqb kind 2) (cond (oneFault body) (c.Events true) (c.Refused FaultBody))
+    (cond (eqb kind 2) (cond (one_fault body) (c.Events true) (c.Refused FaultBody))
     (cond (eqb kind 3) c.Samples (c.Refused Kind)))
 
 -- THE EVENTS of a body, one a byte
-abbrev pub eventOf : Bool → ℕ → Event
-eventOf fault b = cond fault (e.Fault (faultOf b)) (e.Byte b)
+abbrev pub event_of : Bool → ℕ → Event
+event_of fault b = cond fault (e.Fault (fault_of b)) (e.Byte b)
 
-abbrev pub eventsOf : Bool → List ℕ → List Event
-eventsOf fault body = map (eventOf fault) body
+abbrev pub events_of : Bool → List ℕ → List Event
+events_of fault body = map (event_of fault) body

@@ -1,6 +1,6 @@
 // What a session makes of a record's body: events, samples, or what can't be taken.
 ghost use Rattle.std.specs.Prelude.{◌≡◌};
-ghost use Rattle.records.specs.Contents.{faultOf, eventOf, isFault, oneFault, contentOf};
+ghost use Rattle.records.specs.Contents.{fault_of, event_of, is_fault, one_fault, content_of};
 
 use refusals::Refusal;
 use registers::{Event, Fault};
@@ -22,7 +22,7 @@ pub enum Content {
 
 // A line fault by its code.
 fn fault_of(code: u8) -> Fault
-    ensures { result ≡ faultOf code }
+    ensures { result ≡ fault_of code }
 {
     match code {
         codes::FRAME => Fault::Frame,
@@ -33,7 +33,7 @@ fn fault_of(code: u8) -> Fault
 
 // The event that a byte of a body stands for.
 pub fn event_of(fault: bool, byte: u8) -> Event
-    ensures { result ≡ eventOf fault byte }
+    ensures { result ≡ event_of fault byte }
 {
     if fault {
         return Event::Fault(fault_of(byte));
@@ -43,14 +43,14 @@ pub fn event_of(fault: bool, byte: u8) -> Event
 
 // Whether a byte is the code of a line fault.
 fn is_fault(code: u8) -> bool
-    ensures { result ≡ isFault code }
+    ensures { result ≡ is_fault code }
 {
     (codes::FRAME <= code) & (code <= codes::PARITY)
 }
 
 // Whether a body is one byte that is a fault's code.
 fn one_fault(body: &[u8]) -> bool
-    ensures { result ≡ oneFault body.now }
+    ensures { result ≡ one_fault body.now }
 {
     if body.len() == 1 {
         return is_fault(body[0]);
@@ -60,7 +60,7 @@ fn one_fault(body: &[u8]) -> bool
 
 // A body by its record's kind: refusals 8 and 9.
 pub fn content_of(kind: usize, body: &[u8]) -> Content
-    ensures { result ≡ contentOf kind body.now }
+    ensures { result ≡ content_of kind body.now }
 {
     if kind == BYTES {
         return Content::Events { fault: false };

@@ -9,26 +9,26 @@ use Rattle.refusals.specs.Refusals.{Refusal, Ranges, Samples, Actions, Replies, 
 pub in_order : InOrder
 in_order = refl
 
-refusalAt : ℕ → Refusal
-refusalAt n = get_or (Ranges ∷ refusals) n Ranges
+refusal_at : ℕ → Refusal
+refusal_at n = get_or (Ranges ∷ refusals) n Ranges
 
-number-back : (r : Refusal) → refusalAt (number_of r) ≡ r
-unfolding refusalAt
-number-back Ranges = refl
-number-back Samples = refl
-number-back Actions = refl
-number-back Replies = refl
-number-back Header = refl
-number-back Length = refl
-number-back Passes = refl
-number-back Kind = refl
-number-back FaultBody = refl
-number-back Size = refl
-number-back Factory = refl
-number-back Waits = refl
+number_back : (r : Refusal) → refusal_at (number_of r) ≡ r
+unfolding refusal_at
+number_back Ranges = refl
+number_back Samples = refl
+number_back Actions = refl
+number_back Replies = refl
+number_back Header = refl
+number_back Length = refl
+number_back Passes = refl
+number_back Kind = refl
+number_back FaultBody = refl
+number_back Size = refl
+number_back Factory = refl
+number_back Waits = refl
 
 pub same_number : (r q : Refusal) → number_of r ≡ number_of q → r ≡ q
-same_number r q n = sym (number-back r) ∙ ap refusalAt n ∙ number-back q
+same_number r q n = sym (number_back r) ∙ ap refusal_at n ∙ number_back q
 
 -- a refusal has a number from 1 to 4, which a call for an event can give, or a higher one
 pub by_number : (P : Refusal → Type 0) (r : Refusal)

@@ -27,8 +27,8 @@ abbrev pub InOrder : Type 0
 InOrder = map number_of refusals ≡ 1 ∷ 2 ∷ 3 ∷ 4 ∷ 5 ∷ 6 ∷ 7 ∷ 8 ∷ 9 ∷ 10 ∷ 11 ∷ 12 ∷ []
 
 -- the words of numbers 1 to 12; "12 also for a pending drop" (02, Ask 2)
-abbrev pub tableWords : List String
-tableWords =
+abbrev pub table_words : List String
+table_words =
     "the state breaks its ranges" ∷
     "fewer samples are left than the event uses" ∷
     "the actions do not fit" ∷
@@ -44,12 +44,12 @@ tableWords =
     []
 
 -- the widest words
-abbrev pub wordsWidth : ℕ
-wordsWidth = 49
+abbrev pub words_width : ℕ
+words_width = 49
 
 abbrev pub lines : List (List ℕ)
-lines = blanks wordsWidth ∷ map (λ (w : String). padded wordsWidth (bytes w)) tableWords
+lines = blanks words_width ∷ map (λ (w : String). padded words_width (bytes w)) table_words
 
 -- a number's words, all blanks for one that is no refusal's
 unfoldable pub words_of : ℕ → List ℕ
-words_of n = get_or lines n (blanks wordsWidth)
+words_of n = get_or lines n (blanks words_width)

@@ -2,39 +2,39 @@
 use Prim.Native.Nat.{ℕ, zero, suc, ◌/◌, ◌%◌, ◌<◌}
 use mathlib.Core.Path.{◌≡◌, refl, sym, ap, ◌∙◌}
 use native.Mathlib.Omega.{arith}
-use Rattle.registers.specs.Registers.{PortRegister, Ddrb, Portb, Ddrc, Portc, Ddrd, Portd, protected, keepC, keep_d}
+use Rattle.registers.specs.Registers.{PortRegister, Ddrb, Portb, Ddrc, Portc, Ddrd, Portd, protected, keep_c, keep_d}
 use Rattle.registers.specs.Protected.{KeepsProtected, Protected}
-use Rattle.registers.proofs.SameBits.{byte-by-bits}
+use Rattle.registers.proofs.SameBits.{byte_by_bits}
 
-keep-c : (old new : ℕ) → KeepsProtected Ddrc old new (keepC old new)
-keep-c old new zero h = omega arith
-keep-c old new (suc zero) h = omega arith
-keep-c old new (suc (suc zero)) h = omega arith
-keep-c old new (suc (suc (suc zero))) h = omega arith
-keep-c old new (suc (suc (suc (suc zero)))) h = omega arith
-keep-c old new (suc (suc (suc (suc (suc zero))))) h = omega arith
-keep-c old new (suc (suc (suc (suc (suc (suc zero)))))) h = omega arith
-keep-c old new (suc (suc (suc (suc (suc (suc (suc zero))))))) h = omega arith
-keep-c old new (suc (suc (suc (suc (suc (suc (suc (suc i)))))))) h = absurd (omega arith)
+keep_c_lem : (old new : ℕ) → KeepsProtected Ddrc old new (keep_c old new)
+keep_c_lem old new zero h = omega arith
+keep_c_lem old new (suc zero) h = omega arith
+keep_c_lem old new (suc (suc zero)) h = omega arith
+keep_c_lem old new (suc (suc (suc zero))) h = omega arith
+keep_c_lem old new (suc (suc (suc (suc zero)))) h = omega arith
+keep_c_lem old new (suc (suc (suc (suc (suc zero))))) h = omega arith
+keep_c_lem old new (suc (suc (suc (suc (suc (suc zero)))))) h = omega arith
+keep_c_lem old new (suc (suc (suc (suc (suc (suc (suc zero))))))) h = omega arith
+keep_c_lem old new (suc (suc (suc (suc (suc (suc (suc (suc i)))))))) h = absurd (omega arith)
 
-keep-d : (old new : ℕ) → KeepsProtected Ddrd old new (keep_d old new)
-keep-d old new zero h = omega arith
-keep-d old new (suc zero) h = omega arith
-keep-d old new (suc (suc zero)) h = omega arith
-keep-d old new (suc (suc (suc zero))) h = omega arith
-keep-d old new (suc (suc (suc (suc zero)))) h = omega arith
-keep-d old new (suc (suc (suc (suc (suc zero))))) h = omega arith
-keep-d old new (suc (suc (suc (suc (suc (suc zero)))))) h = omega arith
-keep-d old new (suc (suc (suc (suc (suc (suc (suc zero))))))) h = let e : keep_d old new / 128 ≡ new / 128 = omega arith in ap (λ (q : ℕ). q % 2) e
-keep-d old new (suc (suc (suc (suc (suc (suc (suc (suc i)))))))) h = absurd (omega arith)
+keep_d_lem : (old new : ℕ) → KeepsProtected Ddrd old new (keep_d old new)
+keep_d_lem old new zero h = omega arith
+keep_d_lem old new (suc zero) h = omega arith
+keep_d_lem old new (suc (suc zero)) h = omega arith
+keep_d_lem old new (suc (suc (suc zero))) h = omega arith
+keep_d_lem old new (suc (suc (suc (suc zero)))) h = omega arith
+keep_d_lem old new (suc (suc (suc (suc (suc zero))))) h = omega arith
+keep_d_lem old new (suc (suc (suc (suc (suc (suc zero)))))) h = omega arith
+keep_d_lem old new (suc (suc (suc (suc (suc (suc (suc zero))))))) h = let e : keep_d old new / 128 ≡ new / 128 = omega arith in ap (λ (q : ℕ). q % 2) e
+keep_d_lem old new (suc (suc (suc (suc (suc (suc (suc (suc i)))))))) h = absurd (omega arith)
 
 keeps : (r : PortRegister) (old new : ℕ) → KeepsProtected r old new (protected r old new)
 keeps Ddrb old new i h = refl
 keeps Portb old new i h = refl
-keeps Ddrc old new i h = keep-c old new i h
-keeps Portc old new i h = keep-c old new i h
-keeps Ddrd old new i h = keep-d old new i h
-keeps Portd old new i h = keep-d old new i h
+keeps Ddrc old new i h = keep_c_lem old new i h
+keeps Portc old new i h = keep_c_lem old new i h
+keeps Ddrd old new i h = keep_d_lem old new i h
+keeps Portd old new i h = keep_d_lem old new i h
 
 small : (r : PortRegister) (old new : ℕ) → old < 256 → new < 256 → protected r old new < 256
 small Ddrb old new h k = k
@@ -44,8 +44,8 @@ small Portc old new h k = omega arith
 small Ddrd old new h k = omega arith
 small Portd old new h k = omega arith
 
-pub protected-right : (r : PortRegister) (old new : ℕ) → Protected r old new
-protected-right r old new = record {
+pub protected_right : (r : PortRegister) (old new : ℕ) → Protected r old new
+protected_right r old new = record {
   bits = keeps r old new;
-  only = λ h k x l e. byte-by-bits x (protected r old new) l (small r old new h k) (λ i j. e i j ∙ sym (keeps r old new i j));
+  only = λ h k x l e. byte_by_bits x (protected r old new) l (small r old new h k) (λ i j. e i j ∙ sym (keeps r old new i j));
 }

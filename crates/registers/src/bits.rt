@@ -1,6 +1,6 @@
 // A bit of a register set or cleared, the others as they were.
 ghost use Rattle.std.specs.Prelude.{◌≡◌, ◌≤◌};
-ghost use Rattle.registers.specs.Bits.{bit_of, withBit};
+ghost use Rattle.registers.specs.Bits.{bit_of, with_bit};
 
 use crate::Bit;
 
@@ -13,7 +13,7 @@ fn bit_of(on: bool) -> u8
 
 // A bit set (on) or cleared.
 pub fn with_bit(bit: Bit, on: bool, x: u8) -> u8
-    ensures { result ≡ withBit bit on x }
+    ensures { result ≡ with_bit bit on x }
 {
     let b = bit_of(on);
     match bit {

@@ -1,7 +1,7 @@
 // The state: one page of registers, what is shared, the wait with the bytes held for it, and whether the next byte is dropped.
 ghost use Rattle.std.specs.Prelude.{◌≡◌};
-ghost use Rattle.registers.specs.Registers.{faultCode, bits_of, isIdle};
-ghost use Rattle.registers.specs.Ranges.{operandFits, waitFits, pageFits, dropFits, stateFits};
+ghost use Rattle.registers.specs.Registers.{fault_code, bits_of, is_idle};
+ghost use Rattle.registers.specs.Ranges.{operand_fits, wait_fits, page_fits, drop_fits, state_fits};
 
 pub mod bits;
 pub mod parts;
@@ -121,7 +121,7 @@ pub enum Event {
 
 // The device code of a line fault.
 pub fn fault_code(f: Fault) -> u8
-    ensures { result ≡ faultCode f }
+    ensures { result ≡ fault_code f }
 {
     match f {
         Fault::Frame => codes::FRAME,
@@ -132,7 +132,7 @@ pub fn fault_code(f: Fault) -> u8
 
 // Whether nothing is waited for.
 pub fn is_idle(w: Wait) -> bool
-    ensures { result ≡ isIdle w }
+    ensures { result ≡ is_idle w }
 {
     match w {
         Wait::Nothing => true,
@@ -147,7 +147,7 @@ pub fn is_idle(w: Wait) -> bool
 }
 
 fn operand_fits(o: Operand, flags: u8) -> bool
-    ensures { result ≡ operandFits o flags }
+    ensures { result ≡ operand_fits o flags }
 {
     match o {
         Operand::ToPort(_) => true,
@@ -162,7 +162,7 @@ fn operand_fits(o: Operand, flags: u8) -> bool
 }
 
 fn wait_fits(w: Wait, flags: u8, configured: bool, size: u8) -> bool
-    ensures { result ≡ waitFits w flags configured (bits_of size) }
+    ensures { result ≡ wait_fits w flags configured (bits_of size) }
 {
     match w {
         Wait::Nothing => true,
@@ -178,7 +178,7 @@ fn wait_fits(w: Wait, flags: u8, configured: bool, size: u8) -> bool
 }
 
 fn page_fits(p: Page) -> bool
-    ensures { result ≡ pageFits p }
+    ensures { result ≡ page_fits p }
 {
     (selected_count(p.flags) <= 1)
         & (p.flags < 32)
@@ -191,14 +191,14 @@ fn page_fits(p: Page) -> bool
 }
 
 fn drop_fits(pending: bool, w: Wait) -> bool
-    ensures { result ≡ dropFits pending w }
+    ensures { result ≡ drop_fits pending w }
 {
     if pending { is_idle(w) } else { true }
 }
 
 // Whether a state breaks no range; if it breaks one, a call is refused with 1.
 pub fn in_range(s: State) -> bool
-    ensures { result ≡ stateFits s }
+    ensures { result ≡ state_fits s }
 {
     let p = s.page;
     let w = s.wait;

@@ -1,12 +1,12 @@
 // The port registers: each by its name, with the action that carries it.
 ghost use Rattle.std.specs.Prelude.{◌≡◌};
-ghost use Rattle.registers.specs.Registers.{registerOf, withRegister, protected, verbOf, line_of};
+ghost use Rattle.registers.specs.Registers.{register_of, with_register, protected, verb_of, line_of};
 
 use crate::{Page, PortRegister};
 
 // A port register's contents.
 pub fn port_register(p: Page, r: PortRegister) -> u8
-    ensures { result ≡ registerOf p r }
+    ensures { result ≡ register_of p r }
 {
     match r {
         PortRegister::Ddrb => p.ddrb,
@@ -20,7 +20,7 @@ pub fn port_register(p: Page, r: PortRegister) -> u8
 
 // The page with a port register stored as it is given.
 pub fn store_register(mut p: Page, r: PortRegister, x: u8) -> Page
-    ensures { result ≡ withRegister p r x }
+    ensures { result ≡ with_register p r x }
 {
     match r {
         PortRegister::Ddrb => {
@@ -78,7 +78,7 @@ pub fn protect(r: PortRegister, old: u8, new: u8) -> u8
 
 // The verb of the action that carries a port register.
 pub fn port_verb(r: PortRegister) -> u8
-    ensures { result ≡ verbOf r }
+    ensures { result ≡ verb_of r }
 {
     match r {
         PortRegister::Ddrb => wire::VERB_DIRECTION,

@@ -1,7 +1,7 @@
 // Replays the session of standard input, or of the file that the argument names, and writes its transcript to standard output.
 ghost use Rattle.std.specs.Prelude.{◌≡◌, false, ◌<◌, ◌≤◌, length};
 ghost use Rattle.session.specs.Runs.{left};
-ghost use Rattle.transcript.specs.Transcript.{mostOutput};
+ghost use Rattle.transcript.specs.Transcript.{most_output};
 
 use input::Input;
 use session::replay::Cursor;
@@ -11,7 +11,7 @@ const CHUNK: usize = 16384;
 
 // One call of the run, and its chunk goes out; a chunk that can't be written ends the replay. The caller shows room for a step.
 fn write_chunk(cursor: Cursor, session: &[u8], out: &mut [u8]) -> Cursor
-    requires { mostOutput ≤ length out.old }
+    requires { most_output ≤ length out.old }
     ensures { cursor.done ≡ false → left session.now result < left session.now cursor }
 {
     let r = session::replay::run(cursor, session, out);

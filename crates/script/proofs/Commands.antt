@@ -4,7 +4,7 @@ use mathlib.Core.Path.{◌≡◌, refl, sym, ◌∙◌, ap, subst}
 use mathlib.Core.Bool.{Bool, true, false, ◌&&◌, ◌||◌, false≢true, and-eq-true_iff}
 use mathlib.Core.List.{List, [], ◌∷◌, Memᴰ}
 use lib.Dec.{T, eqb, eqb→eq}
-use Rattle.grammar.specs.Grammar.{commands, extendedCommands}
+use Rattle.grammar.specs.Grammar.{commands, extended_commands}
 use Rattle.grammar.proofs.Lookups.{any_of}
 use Rattle.script.specs.Commands.{CommandsNamed}
 
@@ -25,6 +25,6 @@ carry : {b : ℕ} {xs : List ℕ} (ys : List ℕ) → among xs ys ≡ true → M
 carry {b} ys e (Memᴰ.head {x = x} {xs = xs} q) = found b ys (ap (λ (c : ℕ). any_of c ys) q ∙ ((and-eq-true_iff (any_of x ys) (among xs ys)).0 e).0)
 carry {b} ys e (Memᴰ.tail {x = x} {xs = xs} m) = carry ys ((and-eq-true_iff (any_of x ys) (among xs ys)).0 e).1 m
 
-pub commands-named : CommandsNamed
-unfolding commands extendedCommands
-commands-named = record { first = λ b. (carry _ refl, carry _ refl); after-1D = λ b. (carry _ refl, carry _ refl) }
+pub commands_named : CommandsNamed
+unfolding commands extended_commands
+commands_named = record { first = λ b. (carry _ refl, carry _ refl); after_1d = λ b. (carry _ refl, carry _ refl) }

@@ -26,16 +26,16 @@ pub record Parses (st : Statement) (l : List ℕ) (r : Parsed) : Type 0 where
   pub within : InBuffer l r
 
 -- what is parsed of a list after a keyword, and of a command with its operands
-abbrev pub listEnded : ℕ → ℕ → ℕ → Stop → Parsed
-listEnded kind p n s.Done = cond (eqb n 0) (d.Wrong p x.Byte) (d.Bytes kind n)
-listEnded kind p n (s.Wrong q e) = d.Wrong q e
+abbrev pub list_ended : ℕ → ℕ → ℕ → Stop → Parsed
+list_ended kind p n s.Done = cond (eqb n 0) (d.Wrong p x.Byte) (d.Bytes kind n)
+list_ended kind p n (s.Wrong q e) = d.Wrong q e
 
-abbrev pub listParsed : ℕ → ℕ → Assembled → Parsed
-listParsed kind p r = listEnded kind p r.size r.stop
+abbrev pub list_parsed : ℕ → ℕ → Assembled → Parsed
+list_parsed kind p r = list_ended kind p r.size r.stop
 
-abbrev pub commandEnded : Context → ℕ → ℕ → ℕ → ℕ → Stop → Parsed
-commandEnded c row p from n s.Done = cond (eqb (n - from) (takes c row)) (d.Bytes 1 n) (d.Wrong p (x.Operands (takes c row)))
-commandEnded c row p from n (s.Wrong q e) = d.Wrong q e
+abbrev pub command_ended : Context → ℕ → ℕ → ℕ → ℕ → Stop → Parsed
+command_ended c row p from n s.Done = cond (eqb (n - from) (takes c row)) (d.Bytes 1 n) (d.Wrong p (x.Operands (takes c row)))
+command_ended c row p from n (s.Wrong q e) = d.Wrong q e
 
-abbrev pub commandParsed : Context → ℕ → ℕ → ℕ → Assembled → Parsed
-commandParsed c row p from r = commandEnded c row p from r.size r.stop
+abbrev pub command_parsed : Context → ℕ → ℕ → ℕ → Assembled → Parsed
+command_parsed c row p from r = command_ended c row p from r.size r.stop

@@ -1,7 +1,7 @@
 // Records of a list of bytes.
 ghost use Rattle.std.specs.Prelude.{◌≡◌, ◌-◌, ◌≤◌, length};
 ghost use Rattle.text.specs.Lists.{Reads};
-ghost use Rattle.script.specs.Cuts.{noRoom, cut_of};
+ghost use Rattle.script.specs.Cuts.{no_room, cut_of};
 
 use records::reading::{HEADER, MOST};
 use records::writing::put_record;
@@ -9,7 +9,7 @@ use text::{Assembled, Expected, Stop};
 
 // There is no room for what the script has at a place.
 fn full(size: usize, place: usize) -> Assembled
-    ensures { result ≡ noRoom size place }
+    ensures { result ≡ no_room size place }
 {
     let stop = Stop::Wrong {
         place,

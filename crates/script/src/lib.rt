@@ -2,7 +2,7 @@
 ghost use Rattle.std.specs.Prelude.{◌≡◌, ◌-◌, ◌≤◌, length};
 ghost use Rattle.text.specs.Lists.{Reads};
 ghost use Rattle.script.specs.Parsed.{meant, InBuffer};
-ghost use Rattle.script.specs.Script.{recordsOf, handed, scriptOf};
+ghost use Rattle.script.specs.Script.{records_of, handed, script_of};
 
 mod cut;
 mod statements;
@@ -20,7 +20,7 @@ const MOST_SESSION: usize = 32768;
 // the buffer and that the place is there.
 fn put_parsed(parsed: Parsed, body: &[u8], at: usize, out: &mut [u8], size: usize) -> Assembled
     requires { InBuffer body.now parsed × (size ≤ length out.old) }
-    ensures { Reads (recordsOf (length out.old - size) at (meant body.now parsed)) out.old size out.new result }
+    ensures { Reads (records_of (length out.old - size) at (meant body.now parsed)) out.old size out.new result }
 {
     match parsed {
         Parsed::Nothing => Assembled {
@@ -61,7 +61,7 @@ fn hand_over(g: Stream, parsed: Parsed, body: &[u8]) -> Stream
 // A script's records, to the front of the output, up to the first line that is wrong or does not fit. Any text and any output
 // will do.
 pub fn assemble(text: &[u8], out: &mut [u8]) -> Assembled
-    ensures { Reads (scriptOf text.now (length out.old)) out.old 0 out.new result }
+    ensures { Reads (script_of text.now (length out.old)) out.old 0 out.new result }
 {
     let mut body = [0u8; MOST_SESSION];
     let mut g = following::start();

@@ -1,8 +1,8 @@
 // The statements of a script.
 ghost use Rattle.std.specs.Prelude.{◌≡◌, ◌≤◌, length};
 ghost use Rattle.wire.specs.Buffer.{Written};
-ghost use Rattle.script.specs.Statements.{most, faultNamed, faultAt, opening, takes, commandAt, listAt, statementBy, statementAt};
-ghost use Rattle.script.specs.Parsed.{Parses, listParsed, commandParsed};
+ghost use Rattle.script.specs.Statements.{most, fault_named, fault_at, opening, takes, command_at, list_at, statement_by, statement_at};
+ghost use Rattle.script.specs.Parsed.{Parses, list_parsed, command_parsed};
 
 use grammar::{Context, following};
 use registers::{Fault, fault_code};
@@ -31,7 +31,7 @@ pub(crate) enum Parsed {
 
 // A list of a kind after a keyword that ends at a place, read to a buffer.
 fn list_parsed(kind: u16, place: usize, r: Assembled) -> Parsed
-    ensures { result ≡ listParsed kind place r }
+    ensures { result ≡ list_parsed kind place r }
 {
     let stop = r.stop;
     let size = r.size;
@@ -51,7 +51,7 @@ fn list_parsed(kind: u16, place: usize, r: Assembled) -> Parsed
 
 // The code of the fault that a word names, 0 if there is none.
 fn fault_named(word: &[u8]) -> u8
-    ensures { result ≡ faultNamed word.now }
+    ensures { result ≡ fault_named word.now }
 {
     if check::same(word, b"frame") {
         return fault_code(Fault::Frame);
@@ -68,7 +68,7 @@ fn fault_named(word: &[u8]) -> u8
 // A fault by the word that names it.
 fn fault(text: &[u8], w: Word, body: &mut [u8]) -> Parsed
     requires { (w.start ≤ w.end) × (w.end ≤ length text.now) × (length body.old ≡ most) }
-    ensures { Parses (faultAt text.now w) body.new result }
+    ensures { Parses (fault_at text.now w) body.new result }
 {
     let from = w.start;
     let to = w.end;
@@ -112,7 +112,7 @@ fn takes(c: Context, row: usize) -> u8
 // A row's command with its name's place, with its operands read behind its first bytes. The caller shows that they are behind them.
 fn command_parsed(c: Context, row: usize, place: usize, from: usize, r: Assembled) -> Parsed
     requires { from ≤ r.size }
-    ensures { result ≡ commandParsed c row place from r }
+    ensures { result ≡ command_parsed c row place from r }
 {
     let stop = r.stop;
     let size = r.size;
@@ -134,7 +134,7 @@ fn command_parsed(c: Context, row: usize, place: usize, from: usize, r: Assemble
 // A command by its row, past the list's end if the word names none.
 fn command(text: &[u8], c: Context, w: Word, row: usize, body: &mut [u8]) -> Parsed
     requires { (w.start ≤ w.end) × (w.end ≤ length text.now) × (length body.old ≡ most) }
-    ensures { Parses (commandAt text.now c w row) body.new result }
+    ensures { Parses (command_at text.now c w row) body.new result }
 {
     let place = w.start;
     if names::ROWS <= row {
@@ -151,7 +151,7 @@ fn command(text: &[u8], c: Context, w: Word, row: usize, body: &mut [u8]) -> Par
 // A list of a kind, after a keyword that ends at a place.
 fn list_at(text: &[u8], kind: u16, at: usize, body: &mut [u8]) -> Parsed
     requires { (at ≤ length text.now) × (length body.old ≡ most) }
-    ensures { Parses (listAt text.now kind at) body.new result }
+    ensures { Parses (list_at text.now kind at) body.new result }
 {
     let r = list(text, at, body, 0);
     list_parsed(kind, at, r)
@@ -160,7 +160,7 @@ fn list_at(text: &[u8], kind: u16, at: usize, body: &mut [u8]) -> Parsed
 // The statement that begins with a word.
 fn statement_by(text: &[u8], c: Context, w: Word, body: &mut [u8]) -> Parsed
     requires { (w.start ≤ w.end) × (w.end ≤ length text.now) × (length body.old ≡ most) }
-    ensures { Parses (statementBy text.now c w) body.new result }
+    ensures { Parses (statement_by text.now c w) body.new result }
 {
     let from = w.start;
     let to = w.end;
@@ -184,7 +184,7 @@ fn statement_by(text: &[u8], c: Context, w: Word, body: &mut [u8]) -> Parsed
 // there and that the buffer has room for the most bytes of a session.
 pub(crate) fn statement(text: &[u8], c: Context, at: usize, body: &mut [u8]) -> Parsed
     requires { (at ≤ length text.now) × (length body.old ≡ most) }
-    ensures { Parses (statementAt text.now c at) body.new result }
+    ensures { Parses (statement_at text.now c at) body.new result }
 {
     let w = word_at(text, at);
     statement_by(text, c, w, body)

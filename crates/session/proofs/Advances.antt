@@ -15,37 +15,37 @@ use Rattle.bridge.specs.declared.Outcome.{Outcome}
 use Rattle.bridge.specs.declared.Outcome.TheVariants.{Taken, Refused}
 use Rattle.refusals.specs.declared.Refusal.{Refusal}
 use Rattle.records.specs.Records.{part}
-use Rattle.records.specs.Contents.{eventOf, eventsOf}
+use Rattle.records.specs.Contents.{event_of, events_of}
 use Rattle.wire.proofs.Choices.{by_bool}
-use Rattle.transcript.specs.Transcript.{call_of, mostOutput}
-use Rattle.session.specs.Runs.{Cursor, Ran, lentTo, entered, stopped, Steps, eventStep, firstStep, step_of, thenSteps, steps_of, RanSteps, left}
-use Rattle.session.specs.Next.{Next, next_of, nextStep, firstCall, codesAt, next_codes, Advanced, Advances}
+use Rattle.transcript.specs.Transcript.{call_of, most_output}
+use Rattle.session.specs.Runs.{Cursor, Ran, lent_to, entered, stopped, Steps, event_step, first_step, step_of, then_steps, steps_of, RanSteps, left}
+use Rattle.session.specs.Next.{Next, next_of, next_step, first_call, codes_at, next_codes, Advanced, Advances}
 use Rattle.session.specs.declared.next.Next.TheVariants as n
-use Rattle.transcript.specs.Events.{bridgeOf, EventDone}
+use Rattle.transcript.specs.Events.{bridge_of, EventDone}
 use Rattle.transcript.specs.declared.events.Done.{Done}
 use Rattle.session.specs.Inner.{StepDone}
-use Rattle.transcript.proofs.CallTests.{call-codeless}
-use Rattle.records.proofs.Parts.{part-first}
-use Rattle.session.proofs.Along.{steps_first, steps-none}
+use Rattle.transcript.proofs.CallTests.{call_codeless}
+use Rattle.records.proofs.Parts.{part_first}
+use Rattle.session.proofs.Along.{steps_first, steps_none}
 use Rattle.session.proofs.Promises.{further}
-use Rattle.session.proofs.Going.{going-first, runs-over, runs-full}
-use Rattle.session.proofs.NextSteps.{step-next, event-lies}
+use Rattle.session.proofs.Going.{going_first, runs_over, runs_full}
+use Rattle.session.proofs.NextSteps.{step_next, event_lies}
 
 -- THE FIRST EVENT of a body, with a buffer that held o
 module _ (c : Cursor) (fault : Bool) (start end : ℕ) (body ss o : List ℕ) where
   abbrev g : Given
-  g = firstCall c.bridge fault body ss
+  g = first_call c.bridge fault body ss
 
   abbrev First : List ℕ → Advanced → Type 0
-  First x r = StepDone (eventStep (entered c start end) g.answer.outcome g) g.answer.codes o x r
+  First x r = StepDone (event_step (entered c start end) g.answer.outcome g) g.answer.codes o x r
 
-  pub first-refused : (why : Refusal) → g.answer.outcome ≡ Refused why → {x : List ℕ} {r : Ran} → RanSteps (stopped why start) o x r → First x (record { ran = r; returned = Nothing })
-  first-refused why e {x} {r} u = record {
-    ran = subst (λ (t : Outcome). RanSteps (eventStep (entered c start end) t g) o x r) (sym e) u;
-    codes_as = sym (call-codeless c.bridge (eventOf fault (get_or body 0 0)) ss why e);
+  pub first_refused : (why : Refusal) → g.answer.outcome ≡ Refused why → {x : List ℕ} {r : Ran} → RanSteps (stopped why start) o x r → First x (record { ran = r; returned = Nothing })
+  first_refused why e {x} {r} u = record {
+    ran = subst (λ (t : Outcome). RanSteps (event_step (entered c start end) t g) o x r) (sym e) u;
+    codes_as = sym (call_codeless c.bridge (event_of fault (get_or body 0 0)) ss why e);
   }
 
-  module _ {e : Event} (ev : e ≡ eventOf fault (get_or body 0 0)) {x : List ℕ} {d : Done} (a : EventDone (call_of c.bridge e ss) ss o x d) where
+  module _ {e : Event} (ev : e ≡ event_of fault (get_or body 0 0)) {x : List ℕ} {d : Done} (a : EventDone (call_of c.bridge e ss) ss o x d) where
     done : EventDone g ss o x d
     done = subst (λ (v : Event). EventDone (call_of c.bridge v ss) ss o x d) ev a
 
@@ -53,54 +53,54 @@ module _ (c : Cursor) (fault : Bool) (start end : ℕ) (body ss o : List ℕ) wh
     pub first_stops : (why : Refusal) → d.outcome ≡ Refused why → {y : List ℕ} {r : Ran} → RanSteps (stopped why start) x y r → First y (record { ran = r; returned = Nothing })
     first_stops why k {y} {r} u =
         let k' : g.answer.outcome ≡ Refused why = sym done.outcome ∙ k in
-        first-refused why k' (subst (λ (l : List ℕ). RanSteps (stopped why start) l y r) (done.refused why k') u)
+        first_refused why k' (subst (λ (l : List ℕ). RanSteps (stopped why start) l y r) (done.refused why k') u)
 
-    pub first-accepted : d.outcome ≡ Taken → {q : Cursor} → q ≡ record { bridge = bridgeOf d.state; at = start + 1; end = end; sample = c.sample + d.used; sampled = c.sampled; done = false }
+    pub first_accepted : d.outcome ≡ Taken → {q : Cursor} → q ≡ record { bridge = bridge_of d.state; at = start + 1; end = end; sample = c.sample + d.used; sampled = c.sampled; done = false }
         → First x (record { ran = record { cursor = q; written = d.written; steps = 1 }; returned = d.returned })
-    first-accepted k {q} e =
+    first_accepted k {q} e =
         let k' : g.answer.outcome ≡ Taken = sym done.outcome ∙ k in
         let f = done.accepted k' in
         record {
-          ran = subst (λ (t : Outcome). RanSteps (eventStep (entered c start end) t g) o x (record { cursor = q; written = d.written; steps = 1 })) (sym k')
+          ran = subst (λ (t : Outcome). RanSteps (event_step (entered c start end) t g) o x (record { cursor = q; written = d.written; steps = 1 })) (sym k')
               (record { next = e ∙ (λ i. record { bridge = f.0 i; at = start + 1; end = end; sample = c.sample + f.1 i; sampled = c.sampled; done = false }); wrote = f.2; steps = refl; within = done.within });
           codes_as = done.codes;
         }
 
 -- A STEP by what is next
 module _ (s : List ℕ) (c : Cursor) (o : List ℕ) where
-  pub without-event : (y : Next) → next_of s c.at c.end ≡ y → codesAt s c y ≡ [] → {x : List ℕ} {r : Ran} → RanSteps (nextStep s c y) o x r
-      → StepDone (step_of s c) (codesAt s c (next_of s c.at c.end)) o x (record { ran = r; returned = Nothing })
-  without-event y e k {x} {r} u = record {
-    ran = subst (λ (t : Steps). RanSteps t o x r) (sym (step-next s c ∙ ap (nextStep s c) e)) u;
-    codes_as = sym (ap (codesAt s c) e ∙ k);
+  pub without_event_lem : (y : Next) → next_of s c.at c.end ≡ y → codes_at s c y ≡ [] → {x : List ℕ} {r : Ran} → RanSteps (next_step s c y) o x r
+      → StepDone (step_of s c) (codes_at s c (next_of s c.at c.end)) o x (record { ran = r; returned = Nothing })
+  without_event_lem y e k {x} {r} u = record {
+    ran = subst (λ (t : Steps). RanSteps t o x r) (sym (step_next s c ∙ ap (next_step s c) e)) u;
+    codes_as = sym (ap (codes_at s c) e ∙ k);
   }
 
-  pub with-event : {fault : Bool} {start end : ℕ} → next_of s c.at c.end ≡ n.Event fault start end → {x : List ℕ} {r : Advanced} → First c fault start end (part s start end) (lentTo s c) o x r
-      → StepDone (step_of s c) (codesAt s c (next_of s c.at c.end)) o x r
-  with-event {fault} {start} {end} e {x} {r} d =
-      let lies = event-lies s c.at c.end e in
-      let q : step_of s c ≡ eventStep (entered c start end) (firstCall c.bridge fault (part s start end) (lentTo s c)).answer.outcome (firstCall c.bridge fault (part s start end) (lentTo s c)) =
-      step-next s c ∙ ap (nextStep s c) e ∙ ap (λ (l : List ℕ). firstStep (entered c start end) (eventsOf fault l) (lentTo s c)) (part-first s start end lies.0 lies.1) in
+  pub with_event : {fault : Bool} {start end : ℕ} → next_of s c.at c.end ≡ n.Event fault start end → {x : List ℕ} {r : Advanced} → First c fault start end (part s start end) (lent_to s c) o x r
+      → StepDone (step_of s c) (codes_at s c (next_of s c.at c.end)) o x r
+  with_event {fault} {start} {end} e {x} {r} d =
+      let lies = event_lies s c.at c.end e in
+      let q : step_of s c ≡ event_step (entered c start end) (first_call c.bridge fault (part s start end) (lent_to s c)).answer.outcome (first_call c.bridge fault (part s start end) (lent_to s c)) =
+      step_next s c ∙ ap (next_step s c) e ∙ ap (λ (l : List ℕ). first_step (entered c start end) (events_of fault l) (lent_to s c)) (part_first s start end lies.0 lies.1) in
       record {
         ran = subst (λ (t : Steps). RanSteps t o x r.ran) (sym q) d.ran;
-        codes_as = d.codes_as ∙ sym (ap (codesAt s c) e);
+        codes_as = d.codes_as ∙ sym (ap (codes_at s c) e);
       }
 
   -- A CALL of `advance` that makes its step ..
-  pub work : c.done || ltb (length o) mostOutput ≡ false → (c.done ≡ false) × (mostOutput ≤ length o)
+  pub work : c.done || ltb (length o) most_output ≡ false → (c.done ≡ false) × (most_output ≤ length o)
   work = go c.done
     where
-      go : (t : Bool) → t || ltb (length o) mostOutput ≡ false → (t ≡ false) × (mostOutput ≤ length o)
+      go : (t : Bool) → t || ltb (length o) most_output ≡ false → (t ≡ false) × (most_output ≤ length o)
       go true h = absurd (true≢false h)
-      go false h = (refl, ltb-false (length o) mostOutput h)
+      go false h = (refl, ltb-false (length o) most_output h)
 
-  single : c.done ≡ false → mostOutput ≤ length o → steps_of 1 s (length o) c ≡ step_of s c
+  single : c.done ≡ false → most_output ≤ length o → steps_of 1 s (length o) c ≡ step_of s c
   single live room =
       steps_first 0 s (length o) c live room
-      ∙ ap (λ (t : Steps). thenSteps (step_of s c) t) (steps-none s (length o - length (step_of s c).bytes) (step_of s c).next)
+      ∙ ap (λ (t : Steps). then_steps (step_of s c) t) (steps_none s (length o - length (step_of s c).bytes) (step_of s c).next)
       ∙ (λ i. record { next = (step_of s c).next; bytes = append-nil (step_of s c).bytes i; steps = add-zero (step_of s c).steps i })
 
-  pub advances : {x : List ℕ} {r : Advanced} → c.done ≡ false → mostOutput ≤ length o → StepDone (step_of s c) (codesAt s c (next_of s c.at c.end)) o x r → Advances s c o x r
+  pub advances : {x : List ℕ} {r : Advanced} → c.done ≡ false → most_output ≤ length o → StepDone (step_of s c) (codes_at s c (next_of s c.at c.end)) o x r → Advances s c o x r
   advances {x} {r} live room d = record {
     ran = record {
       made = subst (λ (t : Steps). RanSteps t o x r.ran) (sym (single live room)) d.ran;
@@ -109,18 +109,18 @@ module _ (s : List ℕ) (c : Cursor) (o : List ℕ) where
     codes = d.codes_as ∙ sym (none_over live room);
   }
     where
-      none_over : c.done ≡ false → mostOutput ≤ length o → next_codes s (length o) c ≡ codesAt s c (next_of s c.at c.end)
-      none_over live room = rw (live, le-ltb (length o) mostOutput room)
+      none_over : c.done ≡ false → most_output ≤ length o → next_codes s (length o) c ≡ codes_at s c (next_of s c.at c.end)
+      none_over live room = rw (live, le-ltb (length o) most_output room)
 
   -- .. and one that makes none, since the replay is over or has no room
-  pub stays : c.done || ltb (length o) mostOutput ≡ true → Advances s c o o (record { ran = record { cursor = c; written = 0; steps = 0 }; returned = Nothing })
+  pub stays : c.done || ltb (length o) most_output ≡ true → Advances s c o o (record { ran = record { cursor = c; written = 0; steps = 0 }; returned = Nothing })
   stays h = record {
     ran =
-        by_bool c.done (λ t. runs-over 1 s c o (going-first 1 s c o) t)
-        (λ t. runs-full 1 s c o (going-first 1 s c o) (lt-leb mostOutput (length o - 0) (omega (arith, ltb-true (length o) mostOutput (short c.done t h)))));
+        by_bool c.done (λ t. runs_over 1 s c o (going_first 1 s c o) t)
+        (λ t. runs_full 1 s c o (going_first 1 s c o) (lt-leb most_output (length o - 0) (omega (arith, ltb-true (length o) most_output (short c.done t h)))));
     codes = rw h;
   }
     where
-      short : (t : Bool) → t ≡ false → t || ltb (length o) mostOutput ≡ true → ltb (length o) mostOutput ≡ true
+      short : (t : Bool) → t ≡ false → t || ltb (length o) most_output ≡ true → ltb (length o) most_output ≡ true
       short true q e = absurd (true≢false q)
       short false q e = e

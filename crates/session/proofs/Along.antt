@@ -13,90 +13,90 @@ use Rattle.bridge.specs.Answering.{Given}
 use Rattle.bridge.specs.declared.Bridge.{Bridge}
 use Rattle.bridge.specs.declared.Outcome.{Outcome}
 use Rattle.bridge.specs.declared.Outcome.TheVariants.{Taken, Refused}
-use Rattle.records.specs.Records.{part, recordFrom}
+use Rattle.records.specs.Records.{part, record_from}
 use Rattle.refusals.specs.declared.Refusal.TheVariants.{Size}
-use Rattle.records.specs.Contents.{eventOf, eventsOf, contentOf}
+use Rattle.records.specs.Contents.{event_of, events_of, content_of}
 use Rattle.records.specs.declared.reading.Record.{Record}
 use Rattle.records.specs.declared.reading.Record.TheVariants as r
 use Rattle.records.specs.declared.contents.Content.{Content}
 use Rattle.records.specs.declared.contents.Content.TheVariants as k
 use Rattle.wire.proofs.Choices.{by_cond, by_bool}
-use Rattle.transcript.specs.Transcript.{call_of, outputOf, refusalOf, mostOutput}
-use Rattle.session.specs.Runs.{Cursor, lentTo, Steps, finished, stopped, entered, pastEvent, eventStep, firstStep, bodyStep, recordStep, step_of, stay, thenSteps, steps_of}
-use Rattle.transcript.specs.Events.{Progress, halt, onward, progressOf}
+use Rattle.transcript.specs.Transcript.{call_of, output_of, refusal_of, most_output}
+use Rattle.session.specs.Runs.{Cursor, lent_to, Steps, finished, stopped, entered, past_event, event_step, first_step, body_step, record_step, step_of, stay, then_steps, steps_of}
+use Rattle.transcript.specs.Events.{Progress, halt, onward, progress_of}
 use Rattle.session.specs.Inner.{Entering}
-use Rattle.transcript.proofs.CallTests.{not-refused, call-few}
-use Rattle.records.proofs.Parts.{part_none, part-first, no-fault, lent-rest}
-use Rattle.transcript.proofs.Progress.{progress_step, progress-short}
+use Rattle.transcript.proofs.CallTests.{not_refused_lem, call_few}
+use Rattle.records.proofs.Parts.{part_none, part_first, no_fault, lent_rest}
+use Rattle.transcript.proofs.Progress.{progress_step, progress_short}
 
 -- STEPS, by their tests
 
-pub steps-over : (n : ℕ) (s : List ℕ) (room : ℕ) (c : Cursor) → c.done ≡ true → steps_of n s room c ≡ stay c
+pub steps_over : (n : ℕ) (s : List ℕ) (room : ℕ) (c : Cursor) → c.done ≡ true → steps_of n s room c ≡ stay c
 unfolding steps_of
-steps-over zero s room c h = refl
-steps-over (suc n) s room c h = rw h
+steps_over zero s room c h = refl
+steps_over (suc n) s room c h = rw h
 
-pub steps-short : (n : ℕ) (s : List ℕ) (room : ℕ) (c : Cursor) → room < mostOutput → steps_of n s room c ≡ stay c
+pub steps_short : (n : ℕ) (s : List ℕ) (room : ℕ) (c : Cursor) → room < most_output → steps_of n s room c ≡ stay c
 unfolding steps_of
-steps-short zero s room c h = refl
-steps-short (suc n) s room c h = by_bool c.done (λ t. rw t) (λ t. rw (t, lt-ltb room mostOutput h))
+steps_short zero s room c h = refl
+steps_short (suc n) s room c h = by_bool c.done (λ t. rw t) (λ t. rw (t, lt-ltb room most_output h))
 
-pub steps-none : (s : List ℕ) (room : ℕ) (c : Cursor) → steps_of 0 s room c ≡ stay c
+pub steps_none : (s : List ℕ) (room : ℕ) (c : Cursor) → steps_of 0 s room c ≡ stay c
 unfolding steps_of
-steps-none s room c = refl
+steps_none s room c = refl
 
-pub steps_first : (n : ℕ) (s : List ℕ) (room : ℕ) (c : Cursor) → c.done ≡ false → mostOutput ≤ room
-    → steps_of (suc n) s room c ≡ thenSteps (step_of s c) (steps_of n s (room - length (step_of s c).bytes) (step_of s c).next)
+pub steps_first : (n : ℕ) (s : List ℕ) (room : ℕ) (c : Cursor) → c.done ≡ false → most_output ≤ room
+    → steps_of (suc n) s room c ≡ then_steps (step_of s c) (steps_of n s (room - length (step_of s c).bytes) (step_of s c).next)
 unfolding steps_of
 steps_first n s room c live h =
-    ap (λ (t : Bool). cond t (stay c) (thenSteps (step_of s c) (steps_of n s (room - length (step_of s c).bytes) (step_of s c).next)))
-    ((λ k. live k || ltb room mostOutput) ∙ le-ltb room mostOutput h)
+    ap (λ (t : Bool). cond t (stay c) (then_steps (step_of s c) (steps_of n s (room - length (step_of s c).bytes) (step_of s c).next)))
+    ((λ k. live k || ltb room most_output) ∙ le-ltb room most_output h)
 
 pub too_long : (s : List ℕ) (c : Cursor) → 32768 < length s → step_of s c ≡ stopped Size 0
 unfolding step_of
 too_long s c h = rw (lt-leb (length s) 32768 h)
 
-pub step-as : (s : List ℕ) (c : Cursor) {x : Record} → length s ≤ 32768 → recordFrom s c.at c.end ≡ x → step_of s c ≡ recordStep s c x
+pub step_as : (s : List ℕ) (c : Cursor) {x : Record} → length s ≤ 32768 → record_from s c.at c.end ≡ x → step_of s c ≡ record_step s c x
 unfolding step_of
-step-as s c h e = rw (le-leb (length s) 32768 h, e)
+step_as s c h e = rw (le-leb (length s) 32768 h, e)
 
-outcome-one : (c : Cursor) (t : Outcome) (g : Given) → (eventStep c t g).steps ≡ 1
-outcome-one c Taken g = refl
-outcome-one c (Refused why) g = refl
+outcome_one : (c : Cursor) (t : Outcome) (g : Given) → (event_step c t g).steps ≡ 1
+outcome_one c Taken g = refl
+outcome_one c (Refused why) g = refl
 
-events-one : (c : Cursor) (es : List Event) (ss : List ℕ) → (firstStep c es ss).steps ≡ 1
-events-one c [] ss = refl
-events-one c (e ∷ es) ss = outcome-one c (call_of c.bridge e ss).answer.outcome (call_of c.bridge e ss)
+events_one : (c : Cursor) (es : List Event) (ss : List ℕ) → (first_step c es ss).steps ≡ 1
+events_one c [] ss = refl
+events_one c (e ∷ es) ss = outcome_one c (call_of c.bridge e ss).answer.outcome (call_of c.bridge e ss)
 
-body-one : (s : List ℕ) (c : Cursor) (start end : ℕ) (x : Content) → (bodyStep s c start end x).steps ≡ 1
-body-one s c start end (k.Events fault) = events-one (entered c start end) (eventsOf fault (part s start end)) (lentTo s c)
-body-one s c start end k.Samples = refl
-body-one s c start end (k.Refused why) = refl
+body_one : (s : List ℕ) (c : Cursor) (start end : ℕ) (x : Content) → (body_step s c start end x).steps ≡ 1
+body_one s c start end (k.Events fault) = events_one (entered c start end) (events_of fault (part s start end)) (lent_to s c)
+body_one s c start end k.Samples = refl
+body_one s c start end (k.Refused why) = refl
 
-record-one : (s : List ℕ) (c : Cursor) (x : Record) → (recordStep s c x).steps ≡ 1
-record-one s c (r.Body kind start end) = body-one s c start end (contentOf kind (part s start end))
-record-one s c r.End = refl
-record-one s c (r.Refused why) = refl
+record_one : (s : List ℕ) (c : Cursor) (x : Record) → (record_step s c x).steps ≡ 1
+record_one s c (r.Body kind start end) = body_one s c start end (content_of kind (part s start end))
+record_one s c r.End = refl
+record_one s c (r.Refused why) = refl
 
-pub one-step : (s : List ℕ) (c : Cursor) → (step_of s c).steps ≡ 1
+pub one_step_lem : (s : List ℕ) (c : Cursor) → (step_of s c).steps ≡ 1
 unfolding step_of
-one-step s c = by_cond (λ (t : Steps). t.steps ≡ 1) (leb (length s) 32768) (λ _. record-one s c (recordFrom s c.at c.end)) (λ _. refl)
+one_step_lem s c = by_cond (λ (t : Steps). t.steps ≡ 1) (leb (length s) 32768) (λ _. record_one s c (record_from s c.at c.end)) (λ _. refl)
 
 -- A BODY'S EVENTS from a cursor at their place, as far as they get, and the steps after them
 abbrev pub gone : Cursor → Progress → Cursor
 gone c p = record { bridge = p.bridge; at = c.at + p.read; end = c.end; sample = c.sample + p.used; sampled = c.sampled; done = false }
 
-abbrev pub goneOn : ℕ → List ℕ → ℕ → Cursor → Outcome → Progress → Steps
-goneOn n s room c Taken p = thenSteps (record { next = gone c p; bytes = p.bytes; steps = p.read }) (steps_of (n - p.read) s (room - length p.bytes) (gone c p))
-goneOn n s room c (Refused why) p = record { next = finished; bytes = p.bytes ++ refusalOf why (c.at + p.read); steps = p.read + 1 }
+abbrev pub gone_on : ℕ → List ℕ → ℕ → Cursor → Outcome → Progress → Steps
+gone_on n s room c Taken p = then_steps (record { next = gone c p; bytes = p.bytes; steps = p.read }) (steps_of (n - p.read) s (room - length p.bytes) (gone c p))
+gone_on n s room c (Refused why) p = record { next = finished; bytes = p.bytes ++ refusal_of why (c.at + p.read); steps = p.read + 1 }
 
-onward-some : (t : Outcome) (b : Bridge) (g : Given) (p : Progress) → (onward t b g p).outcome ≡ Taken → 0 < (onward t b g p).read
-onward-some Taken b g p e = omega arith
-onward-some (Refused why) b g p e = absurd (not-refused why (sym e))
+onward_some : (t : Outcome) (b : Bridge) (g : Given) (p : Progress) → (onward t b g p).outcome ≡ Taken → 0 < (onward t b g p).read
+onward_some Taken b g p e = omega arith
+onward_some (Refused why) b g p e = absurd (not_refused_lem why (sym e))
 
 module _ (s : List ℕ) (h : length s ≤ 32768) where
   -- where no event is taken, all steps are still to make
-  none : (n room : ℕ) (c : Cursor) → c.done ≡ false → goneOn n s room c Taken (halt c.bridge Taken) ≡ steps_of n s room c
+  none : (n room : ℕ) (c : Cursor) → c.done ≡ false → gone_on n s room c Taken (halt c.bridge Taken) ≡ steps_of n s room c
   none n room c live =
       let u : gone c (halt c.bridge Taken) ≡ c = λ k. record { bridge = c.bridge; at = add-zero c.at k; end = c.end; sample = add-zero c.sample k; sampled = c.sampled; done = sym live k } in
       let r : steps_of (n - 0) s (room - 0) (gone c (halt c.bridge Taken)) ≡ steps_of n s room c = λ k. steps_of (sub-zero n k) s (sub-zero room k) (u k) in
@@ -105,27 +105,27 @@ module _ (s : List ℕ) (h : length s ≤ 32768) where
   -- one event of a body, and then the rest of it
   module _ (c : Cursor) (fault : Bool) (start end : ℕ) (i : start < end) (j : end ≤ length s) where
     abbrev e : Event
-    e = eventOf fault (get_or (part s start end) 0 0)
+    e = event_of fault (get_or (part s start end) 0 0)
 
     abbrev g : Given
-    g = call_of c.bridge e (lentTo s c)
+    g = call_of c.bridge e (lent_to s c)
 
     abbrev d : Cursor
-    d = pastEvent (entered c start end) g.answer
+    d = past_event (entered c start end) g.answer
 
     joined : (n room : ℕ) (t : Outcome) (p : Progress)
-        → thenSteps (record { next = d; bytes = outputOf g; steps = 1 }) (goneOn n s (room - length (outputOf g)) d t p)
-        ≡ goneOn (suc n) s room (entered c start end) t (onward Taken c.bridge g p)
+        → then_steps (record { next = d; bytes = output_of g; steps = 1 }) (gone_on n s (room - length (output_of g)) d t p)
+        ≡ gone_on (suc n) s room (entered c start end) t (onward Taken c.bridge g p)
     joined n room Taken p =
         let at : start + 1 + p.read ≡ start + (1 + p.read) = omega arith in
         let sample : c.sample + g.answer.samples + p.used ≡ c.sample + (g.answer.samples + p.used) = omega arith in
         let m : n - p.read ≡ suc n - (1 + p.read) = omega arith in
-        let v : room - length (outputOf g) - length p.bytes ≡ room - length (outputOf g ++ p.bytes) = omega (arith, length-append (outputOf g) p.bytes) in
+        let v : room - length (output_of g) - length p.bytes ≡ room - length (output_of g ++ p.bytes) = omega (arith, length-append (output_of g) p.bytes) in
         let u : gone d p ≡ gone (entered c start end) (onward Taken c.bridge g p) = λ k. record { bridge = p.bridge; at = at k; end = end; sample = sample k; sampled = c.sampled; done = false } in
-        let r : steps_of (n - p.read) s (room - length (outputOf g) - length p.bytes) (gone d p) ≡ steps_of (suc n - (1 + p.read)) s (room - length (outputOf g ++ p.bytes)) (gone (entered c start end) (onward Taken c.bridge g p)) = λ k. steps_of (m k) s (v k) (u k) in
+        let r : steps_of (n - p.read) s (room - length (output_of g) - length p.bytes) (gone d p) ≡ steps_of (suc n - (1 + p.read)) s (room - length (output_of g ++ p.bytes)) (gone (entered c start end) (onward Taken c.bridge g p)) = λ k. steps_of (m k) s (v k) (u k) in
         λ k. record {
           next = (r k).next;
-          bytes = sym (append_assoc (outputOf g) p.bytes (r k).bytes) k;
+          bytes = sym (append_assoc (output_of g) p.bytes (r k).bytes) k;
           steps = sym (add_assoc 1 p.read (r k).steps) k;
         }
     joined n room (Refused why) p =
@@ -133,31 +133,31 @@ module _ (s : List ℕ) (h : length s ≤ 32768) where
         let m : 1 + (p.read + 1) ≡ 1 + p.read + 1 = omega arith in
         λ k. record {
           next = finished;
-          bytes = sym (append_assoc (outputOf g) p.bytes (refusalOf why (at k))) k;
+          bytes = sym (append_assoc (output_of g) p.bytes (refusal_of why (at k))) k;
           steps = m k;
         }
 
     abbrev more : ℕ → ℕ → Progress
-    more n room = progressOf n (room - length (outputOf g)) (eventsOf fault (part s (start + 1) end)) g.answer.bridge (drop g.answer.samples (lentTo s c))
+    more n room = progress_of n (room - length (output_of g)) (events_of fault (part s (start + 1) end)) g.answer.bridge (drop g.answer.samples (lent_to s c))
 
     -- by its outcome; it is given that the steps from the next cursor go along the rest of the body
-    event-along : (n room : ℕ) (t : Outcome)
-        → steps_of n s (room - length (outputOf g)) d ≡ goneOn n s (room - length (outputOf g)) d (more n room).outcome (more n room)
-        → thenSteps (eventStep (entered c start end) t g) (steps_of n s (room - length (eventStep (entered c start end) t g).bytes) (eventStep (entered c start end) t g).next)
-        ≡ goneOn (suc n) s room (entered c start end) (onward t c.bridge g (more n room)).outcome (onward t c.bridge g (more n room))
-    event-along n room Taken q = ap (λ (u : Steps). thenSteps (record { next = d; bytes = outputOf g; steps = 1 }) u) q ∙ joined n room (more n room).outcome (more n room)
-    event-along n room (Refused why) q =
-        let bs = refusalOf why start in
-        ap (λ (u : Steps). thenSteps (record { next = finished; bytes = bs; steps = 1 }) u) (steps-over n s (room - length bs) finished refl)
-        ∙ (λ k. record { next = finished; bytes = (append-nil bs ∙ ap (λ (v : ℕ). refusalOf why v) (sym (add-zero start))) k; steps = 1 })
+    event_along : (n room : ℕ) (t : Outcome)
+        → steps_of n s (room - length (output_of g)) d ≡ gone_on n s (room - length (output_of g)) d (more n room).outcome (more n room)
+        → then_steps (event_step (entered c start end) t g) (steps_of n s (room - length (event_step (entered c start end) t g).bytes) (event_step (entered c start end) t g).next)
+        ≡ gone_on (suc n) s room (entered c start end) (onward t c.bridge g (more n room)).outcome (onward t c.bridge g (more n room))
+    event_along n room Taken q = ap (λ (u : Steps). then_steps (record { next = d; bytes = output_of g; steps = 1 }) u) q ∙ joined n room (more n room).outcome (more n room)
+    event_along n room (Refused why) q =
+        let bs = refusal_of why start in
+        ap (λ (u : Steps). then_steps (record { next = finished; bytes = bs; steps = 1 }) u) (steps_over n s (room - length bs) finished refl)
+        ∙ (λ k. record { next = finished; bytes = (append-nil bs ∙ ap (λ (v : ℕ). refusal_of why v) (sym (add-zero start))) k; steps = 1 })
 
   -- ALONG A BODY of bytes, from a cursor in it or at its end
   abbrev Along : ℕ → Type 0
   Along n = (room : ℕ) (c : Cursor) → c.done ≡ false → c.at ≤ c.end → c.end ≤ length s
-      → steps_of n s room c ≡ goneOn n s room c (progressOf n room (eventsOf false (part s c.at c.end)) c.bridge (lentTo s c)).outcome (progressOf n room (eventsOf false (part s c.at c.end)) c.bridge (lentTo s c))
+      → steps_of n s room c ≡ gone_on n s room c (progress_of n room (events_of false (part s c.at c.end)) c.bridge (lent_to s c)).outcome (progress_of n room (events_of false (part s c.at c.end)) c.bridge (lent_to s c))
 
   -- .. and from a cursor that enters one
-  module _ (n : ℕ) (ih : Along n) (room : ℕ) (c : Cursor) (fault : Bool) (start end : ℕ) (live : c.done ≡ false) (r : mostOutput ≤ room) (u : Entering s c fault start end) where
+  module _ (n : ℕ) (ih : Along n) (room : ℕ) (c : Cursor) (fault : Bool) (start end : ℕ) (live : c.done ≡ false) (r : most_output ≤ room) (u : Entering s c fault start end) where
     abbrev e' : Event
     e' = e c fault start end u.some u.within
 
@@ -170,34 +170,34 @@ module _ (s : List ℕ) (h : length s ≤ 32768) where
     abbrev p : Progress
     p = more c fault start end u.some u.within n room
 
-    rest : steps_of n s (room - length (outputOf x)) d' ≡ goneOn n s (room - length (outputOf x)) d' p.outcome p
+    rest : steps_of n s (room - length (output_of x)) d' ≡ gone_on n s (room - length (output_of x)) d' p.outcome p
     rest =
-        ih (room - length (outputOf x)) d' refl (omega (arith, u.some)) u.within
-        ∙ ap (λ (q : Progress). goneOn n s (room - length (outputOf x)) d' q.outcome q)
-        (λ k. progressOf n (room - length (outputOf x)) (sym (no-fault fault (part s (start + 1) end) (λ t. part_none s (start + 1) end (omega (arith, u.single t)))) k) x.answer.bridge (lent-rest s c.sample c.sampled x.answer.samples (call-few c.bridge e' (lentTo s c)) k))
+        ih (room - length (output_of x)) d' refl (omega (arith, u.some)) u.within
+        ∙ ap (λ (q : Progress). gone_on n s (room - length (output_of x)) d' q.outcome q)
+        (λ k. progress_of n (room - length (output_of x)) (sym (no_fault fault (part s (start + 1) end) (λ t. part_none s (start + 1) end (omega (arith, u.single t)))) k) x.answer.bridge (lent_rest s c.sample c.sampled x.answer.samples (call_few c.bridge e' (lent_to s c)) k))
 
-    first : step_of s c ≡ eventStep (entered c start end) x.answer.outcome x
-    first = u.first ∙ ap (λ (l : List ℕ). firstStep (entered c start end) (eventsOf fault l) (lentTo s c)) (part-first s start end u.some u.within)
+    first : step_of s c ≡ event_step (entered c start end) x.answer.outcome x
+    first = u.first ∙ ap (λ (l : List ℕ). first_step (entered c start end) (events_of fault l) (lent_to s c)) (part_first s start end u.some u.within)
 
-    whole : progressOf (suc n) room (eventsOf fault (part s start end)) c.bridge (lentTo s c) ≡ onward x.answer.outcome c.bridge x p
+    whole : progress_of (suc n) room (events_of fault (part s start end)) c.bridge (lent_to s c) ≡ onward x.answer.outcome c.bridge x p
     whole =
-        ap (λ (l : List ℕ). progressOf (suc n) room (eventsOf fault l) c.bridge (lentTo s c)) (part-first s start end u.some u.within)
-        ∙ progress_step n room e' (eventsOf fault (part s (start + 1) end)) c.bridge (lentTo s c) r
+        ap (λ (l : List ℕ). progress_of (suc n) room (events_of fault l) c.bridge (lent_to s c)) (part_first s start end u.some u.within)
+        ∙ progress_step n room e' (events_of fault (part s (start + 1) end)) c.bridge (lent_to s c) r
 
     -- .. with an event at least, unless it is refused
-    pub some : (progressOf (suc n) room (eventsOf fault (part s start end)) c.bridge (lentTo s c)).outcome ≡ Taken → 0 < (progressOf (suc n) room (eventsOf fault (part s start end)) c.bridge (lentTo s c)).read
-    some = subst⁻¹ (λ (q : Progress). q.outcome ≡ Taken → 0 < q.read) whole (onward-some x.answer.outcome c.bridge x p)
+    pub some : (progress_of (suc n) room (events_of fault (part s start end)) c.bridge (lent_to s c)).outcome ≡ Taken → 0 < (progress_of (suc n) room (events_of fault (part s start end)) c.bridge (lent_to s c)).read
+    some = subst⁻¹ (λ (q : Progress). q.outcome ≡ Taken → 0 < q.read) whole (onward_some x.answer.outcome c.bridge x p)
 
     pub enters : steps_of (suc n) s room c
-        ≡ goneOn (suc n) s room (entered c start end) (progressOf (suc n) room (eventsOf fault (part s start end)) c.bridge (lentTo s c)).outcome (progressOf (suc n) room (eventsOf fault (part s start end)) c.bridge (lentTo s c))
+        ≡ gone_on (suc n) s room (entered c start end) (progress_of (suc n) room (events_of fault (part s start end)) c.bridge (lent_to s c)).outcome (progress_of (suc n) room (events_of fault (part s start end)) c.bridge (lent_to s c))
     enters =
         steps_first n s room c live r
-        ∙ ap (λ (t : Steps). thenSteps t (steps_of n s (room - length t.bytes) t.next)) first
-        ∙ event-along c fault start end u.some u.within n room x.answer.outcome rest
-        ∙ ap (λ (q : Progress). goneOn (suc n) s room (entered c start end) q.outcome q) (sym whole)
+        ∙ ap (λ (t : Steps). then_steps t (steps_of n s (room - length t.bytes) t.next)) first
+        ∙ event_along c fault start end u.some u.within n room x.answer.outcome rest
+        ∙ ap (λ (q : Progress). gone_on (suc n) s room (entered c start end) q.outcome q) (sym whole)
 
   entering : (c : Cursor) → c.at < c.end → c.end ≤ length s → Entering s c false c.at c.end
-  unfolding step_of recordFrom
+  unfolding step_of record_from
   entering c i j = record {
     first = rw (le-leb (length s) 32768 h, lt-ltb c.at c.end i, le-leb c.end (length s) j);
     some = i;
@@ -209,11 +209,11 @@ module _ (s : List ℕ) (h : length s ≤ 32768) where
   along zero room c live i j = sym (none 0 room c live)
   along (suc n) room c live i j =
       by_bool (ltb c.at c.end)
-      (λ t. by_bool (ltb room mostOutput) (λ v. none-by (progress-short (suc n) room (eventsOf false (part s c.at c.end)) c.bridge (lentTo s c) (ltb-true room mostOutput v)))
-      (λ v. enters n (along n) room c false c.at c.end live (ltb-false room mostOutput v) (entering c (ltb-true c.at c.end t) j)
-      ∙ ap (λ (d : Cursor). goneOn (suc n) s room d (progressOf (suc n) room (eventsOf false (part s c.at c.end)) c.bridge (lentTo s c)).outcome (progressOf (suc n) room (eventsOf false (part s c.at c.end)) c.bridge (lentTo s c))) (λ k. record { bridge = c.bridge; at = c.at; end = c.end; sample = c.sample; sampled = c.sampled; done = sym live k })))
-      (λ t. none-by (ap (λ (l : List ℕ). progressOf (suc n) room (eventsOf false l) c.bridge (lentTo s c)) (part_none s c.at c.end (ltb-false c.at c.end t))))
+      (λ t. by_bool (ltb room most_output) (λ v. none_by (progress_short (suc n) room (events_of false (part s c.at c.end)) c.bridge (lent_to s c) (ltb-true room most_output v)))
+      (λ v. enters n (along n) room c false c.at c.end live (ltb-false room most_output v) (entering c (ltb-true c.at c.end t) j)
+      ∙ ap (λ (d : Cursor). gone_on (suc n) s room d (progress_of (suc n) room (events_of false (part s c.at c.end)) c.bridge (lent_to s c)).outcome (progress_of (suc n) room (events_of false (part s c.at c.end)) c.bridge (lent_to s c))) (λ k. record { bridge = c.bridge; at = c.at; end = c.end; sample = c.sample; sampled = c.sampled; done = sym live k })))
+      (λ t. none_by (ap (λ (l : List ℕ). progress_of (suc n) room (events_of false l) c.bridge (lent_to s c)) (part_none s c.at c.end (ltb-false c.at c.end t))))
     where
-      none-by : progressOf (suc n) room (eventsOf false (part s c.at c.end)) c.bridge (lentTo s c) ≡ halt c.bridge Taken
-          → steps_of (suc n) s room c ≡ goneOn (suc n) s room c (progressOf (suc n) room (eventsOf false (part s c.at c.end)) c.bridge (lentTo s c)).outcome (progressOf (suc n) room (eventsOf false (part s c.at c.end)) c.bridge (lentTo s c))
-      none-by e = sym (ap (λ (q : Progress). goneOn (suc n) s room c q.outcome q) e ∙ none (suc n) room c live)
+      none_by : progress_of (suc n) room (events_of false (part s c.at c.end)) c.bridge (lent_to s c) ≡ halt c.bridge Taken
+          → steps_of (suc n) s room c ≡ gone_on (suc n) s room c (progress_of (suc n) room (events_of false (part s c.at c.end)) c.bridge (lent_to s c)).outcome (progress_of (suc n) room (events_of false (part s c.at c.end)) c.bridge (lent_to s c))
+      none_by e = sym (ap (λ (q : Progress). gone_on (suc n) s room c q.outcome q) e ∙ none (suc n) room c live)

@@ -1,8 +1,8 @@
 // One step of a replay, with the codes that its event returned.
 ghost use Rattle.std.specs.Prelude.{◌≡◌, ◌+◌, ◌^◌, ◌≤◌, ◌<◌, length};
-ghost use Rattle.transcript.specs.Transcript.{mostOutput};
-ghost use Rattle.session.specs.Runs.{entered, eventStep, step_of};
-ghost use Rattle.session.specs.Next.{firstCall, codesAt, next_of};
+ghost use Rattle.transcript.specs.Transcript.{most_output};
+ghost use Rattle.session.specs.Runs.{entered, event_step, step_of};
+ghost use Rattle.session.specs.Next.{first_call, codes_at, next_of};
 ghost use Rattle.session.specs.Inner.{StepDone};
 
 use crate::next::{Next, next_at};
@@ -34,8 +34,8 @@ fn take_first(
     samples: &[u8],
     out: &mut [u8],
 ) -> Advanced
-    requires { (mostOutput ≤ length out.old) × (0 < length body.now) × (start + 1 < 2 ^ 64) × (c.sample + length samples.now < 2 ^ 64) }
-    ensures { StepDone (eventStep (entered c start end) (firstCall c.bridge fault body.now samples.now).answer.outcome (firstCall c.bridge fault body.now samples.now)) (firstCall c.bridge fault body.now samples.now).answer.codes out.old out.new result }
+    requires { (most_output ≤ length out.old) × (0 < length body.now) × (start + 1 < 2 ^ 64) × (c.sample + length samples.now < 2 ^ 64) }
+    ensures { StepDone (event_step (entered c start end) (first_call c.bridge fault body.now samples.now).answer.outcome (first_call c.bridge fault body.now samples.now)) (first_call c.bridge fault body.now samples.now).answer.codes out.old out.new result }
 {
     let s = c.bridge.state;
     if !registers::in_range(s) {
@@ -61,8 +61,8 @@ fn take_first(
 
 // The next step. The caller shows room for any event's output.
 pub(crate) fn step_once(c: Cursor, session: &[u8], out: &mut [u8]) -> Advanced
-    requires { mostOutput ≤ length out.old }
-    ensures { StepDone (step_of session.now c) (codesAt session.now c (next_of session.now c.at c.end)) out.old out.new result }
+    requires { most_output ≤ length out.old }
+    ensures { StepDone (step_of session.now c) (codes_at session.now c (next_of session.now c.at c.end)) out.old out.new result }
 {
     let next = next_at(session, c.at, c.end);
     let bridge = c.bridge;

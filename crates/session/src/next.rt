@@ -1,7 +1,7 @@
 // What the next step of a replay is about.
 ghost use Rattle.std.specs.Prelude.{◌≡◌};
-ghost use Rattle.records.specs.Contents.{contentOf};
-ghost use Rattle.session.specs.Next.{nextBody, next_of};
+ghost use Rattle.records.specs.Contents.{content_of};
+ghost use Rattle.session.specs.Next.{next_body, next_of};
 
 use crate::replay::MOST_SESSION;
 use records::contents::{Content, content_of};
@@ -33,7 +33,7 @@ pub enum Next {
 
 // A record's body by its kind; a body that can't be taken is refused at a place.
 fn next_in(kind: usize, body: &[u8], start: usize, end: usize, place: usize) -> Next
-    ensures { result ≡ nextBody place start end (contentOf kind body.now) }
+    ensures { result ≡ next_body place start end (content_of kind body.now) }
 {
     let content = content_of(kind, body);
     match content {

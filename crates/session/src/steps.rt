@@ -1,9 +1,9 @@
 // The steps of a replay: the events of a body, or a record that has none.
 ghost use Rattle.std.specs.Prelude.{◌≡◌, false, ◌≤◌, ◌<◌, length};
 ghost use Rattle.records.specs.Records.{part};
-ghost use Rattle.records.specs.Contents.{contentOf};
-ghost use Rattle.transcript.specs.Transcript.{last_of, mostOutput};
-ghost use Rattle.session.specs.Runs.{finished, oneStep, stopped, bodyStep, step_of, RanSteps};
+ghost use Rattle.records.specs.Contents.{content_of};
+ghost use Rattle.transcript.specs.Transcript.{last_of, most_output};
+ghost use Rattle.session.specs.Runs.{finished, one_step, stopped, body_step, step_of, RanSteps};
 ghost use Rattle.session.specs.Inner.{Goes, CanStep, Entering};
 
 use crate::replay::{Cursor, MOST_SESSION, Ran, ended, lent, standing};
@@ -30,7 +30,7 @@ pub(crate) fn stop(why: Refusal, place: usize, out: &mut [u8]) -> Ran
 // The run ends here with the last record. The caller shows room for it.
 pub(crate) fn last(c: Cursor, out: &mut [u8]) -> Ran
     requires { 5 ≤ length out.old }
-    ensures { RanSteps (oneStep finished (last_of c.bridge.state.wait)) out.old out.new result }
+    ensures { RanSteps (one_step finished (last_of c.bridge.state.wait)) out.old out.new result }
 {
     let s = c.bridge.state;
     let w = s.wait;
@@ -110,7 +110,7 @@ fn take_body(
     budget: usize,
     out: &mut [u8],
 ) -> Ran
-    requires { CanStep budget session.now c out.old × (start ≤ end) × (end ≤ length session.now) × (step_of session.now c ≡ bodyStep session.now c start end (contentOf kind (part session.now start end))) }
+    requires { CanStep budget session.now c out.old × (start ≤ end) × (end ≤ length session.now) × (step_of session.now c ≡ body_step session.now c start end (content_of kind (part session.now start end))) }
     ensures { Goes budget session.now c out.old out.new result }
 {
     let content = content_of(kind, &session[start..end]);
@@ -131,7 +131,7 @@ fn take_body(
 // What is left of the body that the replay is in, or the next record; one that can't be taken ends the run there. The caller shows
 // that the replay is not over, that there is a step to make, and that there is room for any event's output.
 pub(crate) fn step(c: Cursor, session: &[u8], budget: usize, out: &mut [u8]) -> Ran
-    requires { (c.done ≡ false) × (0 < budget) × (mostOutput ≤ length out.old) }
+    requires { (c.done ≡ false) × (0 < budget) × (most_output ≤ length out.old) }
     ensures { Goes budget session.now c out.old out.new result }
 {
     if MOST_SESSION < session.len() {

@@ -10,7 +10,7 @@ abbrev pub listed : (ℕ → ℕ) → ℕ → List ℕ
 listed f zero = []
 listed f (suc n) = f 0 ∷ listed (λ (k : ℕ). f (suc k)) n
 
-pub front-listed : (l : List ℕ) (n : ℕ) → n ≤ length l → take n l ≡ listed (λ (k : ℕ). get_or l k 0) n
-front-listed l zero h = refl
-front-listed [] (suc n) h = absurd (omega arith)
-front-listed (x ∷ l) (suc n) h = ap (λ (r : List ℕ). x ∷ r) (front-listed l n (omega arith))
+pub front_listed : (l : List ℕ) (n : ℕ) → n ≤ length l → take n l ≡ listed (λ (k : ℕ). get_or l k 0) n
+front_listed l zero h = refl
+front_listed [] (suc n) h = absurd (omega arith)
+front_listed (x ∷ l) (suc n) h = ap (λ (r : List ℕ). x ∷ r) (front_listed l n (omega arith))

@@ -1,6 +1,6 @@
 // Images of settings: the image of a page, whether an image is good, the page of an image, and the factory image.
 ghost use Rattle.std.specs.Prelude.{◌≡◌};
-ghost use Rattle.settings.specs.Images.{imageTail, imageMark, image_of, goodRegisters, goodTail, isGood, spiByte, page_of};
+ghost use Rattle.settings.specs.Images.{image_tail, image_mark, image_of, good_registers, good_tail, is_good, spi_byte, page_of};
 
 use registers::parts::{selected_count, spi_selected};
 use registers::{IMAGE, Page};
@@ -23,14 +23,14 @@ const NO_SPI: u8 = 0xFF;
 
 // A byte of the image's tail.
 fn image_tail(flags: u8, x: u8) -> u8
-    ensures { result ≡ imageTail flags x }
+    ensures { result ≡ image_tail flags x }
 {
     if spi_selected(flags) { x } else { NO_SPI }
 }
 
 // The byte that says whether SPI is configured.
 fn image_mark(configured: bool) -> u8
-    ensures { result ≡ imageMark configured }
+    ensures { result ≡ image_mark configured }
 {
     if configured { CONFIGURED } else { UNCONFIGURED }
 }
@@ -48,7 +48,7 @@ pub fn image(p: Page) -> [u8; IMAGE]
 }
 
 fn good_registers(flags: u8, ddrc: u8, portc: u8, ddrd: u8, portd: u8) -> bool
-    ensures { result ≡ goodRegisters flags ddrc portc ddrd portd }
+    ensures { result ≡ good_registers flags ddrc portc ddrd portd }
 {
     (flags < 32)
         & (selected_count(flags) <= 1)
@@ -60,7 +60,7 @@ fn good_registers(flags: u8, ddrc: u8, portc: u8, ddrd: u8, portd: u8) -> bool
 
 // The SPI settings in their ranges, or FF FF FF without SPI.
 fn good_tail(spi: bool, config: u8, size: u8, mark: u8) -> bool
-    ensures { result ≡ goodTail spi config size mark }
+    ensures { result ≡ good_tail spi config size mark }
 {
     if spi {
         return (config <= 7)
@@ -72,7 +72,7 @@ fn good_tail(spi: bool, config: u8, size: u8, mark: u8) -> bool
 
 // Whether an image is good.
 pub fn is_good(i: &[u8]) -> bool
-    ensures { result ≡ isGood i.now }
+    ensures { result ≡ is_good i.now }
 {
     if i.len() != IMAGE {
         return false;
@@ -85,7 +85,7 @@ pub fn is_good(i: &[u8]) -> bool
 
 // A byte of the SPI settings, 0 without SPI.
 fn spi_byte(i: &[u8], at: usize) -> u8
-    ensures { result ≡ spiByte i.now at }
+    ensures { result ≡ spi_byte i.now at }
 {
     if !spi_selected(wire::byte_at(i, 0)) {
         return 0;

@@ -1,11 +1,11 @@
 -- Every waveform by name, as its bus defines it. The names are declared in src/lib.rt.
 use Rattle.std.specs.Prelude.{ℕ, List}
 use Rattle.registers.specs.declared.Page.{Page}
-use Rattle.wire.specs.Action.{Action, release, driveHigh, sampleLine, samplePort}
-use Rattle.lines.specs.Waves.{LineWave, still, single, sampling, reinit, reinitHigh, portPulse, pb7Pulse}
-use Rattle.i2c_bus.specs.I2c.{i2cStart, i2cStop, i2cWrite, i2cRead}
-use Rattle.spi_bus.specs.Spi.{spiExchange, packetAfter}
-use Rattle.one_wire_bus.specs.OneWire.{oneWireReset, oneWireWrite, oneWireRead, oneWireReadBit}
+use Rattle.wire.specs.Action.{Action, release, drive_high, sample_line, sample_port}
+use Rattle.lines.specs.Waves.{LineWave, still, single, sampling, reinit, reinit_high, port_pulse, pb7_pulse}
+use Rattle.i2c_bus.specs.I2c.{i2c_start, i2c_stop, i2c_write, i2c_read}
+use Rattle.spi_bus.specs.Spi.{spi_exchange, packet_after}
+use Rattle.one_wire_bus.specs.OneWire.{one_wire_reset, one_wire_write, one_wire_read, one_wire_read_bit}
 pub use Rattle.signals.specs.declared.Waveform.{Waveform}
 pub use Rattle.signals.specs.declared.Waveform.TheVariants.{Still, Reinit, ReinitHigh, Line, Port, PortPulse, Pb7Pulse, SampleLine, SamplePort, Start, Stop, WriteI2c, ReadI2c, Exchange, ResetOneWire, WriteOneWire, WriteOneWireBit, WriteOneWireStrong, ReadOneWire, ReadOneWireBit}
 
@@ -25,24 +25,24 @@ abbrev pub keeping : Page → LineWave → Wave
 keeping p w = leaving p.packet w
 
 -- the waveform on a page, with the samples from place s on
-unfoldable pub waveOf : Page → Waveform → List ℕ → ℕ → Wave
-waveOf p Still ss s = keeping p still
-waveOf p Reinit ss s = keeping p reinit
-waveOf p (ReinitHigh line) ss s = keeping p (reinitHigh line)
-waveOf p (Line verb line) ss s = keeping p (single verb line 0)
-waveOf p (Port verb line x) ss s = keeping p (single verb line x)
-waveOf p (PortPulse line x verb n y) ss s = keeping p (portPulse line x verb n y)
-waveOf p (Pb7Pulse verb n) ss s = keeping p (pb7Pulse verb n)
-waveOf p (SampleLine line) ss s = keeping p (sampling sampleLine line ss s)
-waveOf p (SamplePort line) ss s = keeping p (sampling samplePort line ss s)
-waveOf p Start ss s = keeping p (i2cStart ss s)
-waveOf p Stop ss s = keeping p (i2cStop ss s)
-waveOf p (WriteI2c x) ss s = keeping p (i2cWrite x ss s)
-waveOf p (ReadI2c answer) ss s = keeping p (i2cRead answer ss s)
-waveOf p Exchange ss s = leaving (packetAfter p ss s) (spiExchange p)
-waveOf p ResetOneWire ss s = keeping p (oneWireReset p.timings ss s)
-waveOf p (WriteOneWire x) ss s = keeping p (oneWireWrite p.timings 8 release x)
-waveOf p (WriteOneWireBit x) ss s = keeping p (oneWireWrite p.timings 1 release x)
-waveOf p (WriteOneWireStrong x) ss s = keeping p (oneWireWrite p.timings 8 driveHigh x)
-waveOf p ReadOneWire ss s = keeping p (oneWireRead p.timings ss s)
-waveOf p ReadOneWireBit ss s = keeping p (oneWireReadBit p.timings ss s)
+unfoldable pub wave_of : Page → Waveform → List ℕ → ℕ → Wave
+wave_of p Still ss s = keeping p still
+wave_of p Reinit ss s = keeping p reinit
+wave_of p (ReinitHigh line) ss s = keeping p (reinit_high line)
+wave_of p (Line verb line) ss s = keeping p (single verb line 0)
+wave_of p (Port verb line x) ss s = keeping p (single verb line x)
+wave_of p (PortPulse line x verb n y) ss s = keeping p (port_pulse line x verb n y)
+wave_of p (Pb7Pulse verb n) ss s = keeping p (pb7_pulse verb n)
+wave_of p (SampleLine line) ss s = keeping p (sampling sample_line line ss s)
+wave_of p (SamplePort line) ss s = keeping p (sampling sample_port line ss s)
+wave_of p Start ss s = keeping p (i2c_start ss s)
+wave_of p Stop ss s = keeping p (i2c_stop ss s)
+wave_of p (WriteI2c x) ss s = keeping p (i2c_write x ss s)
+wave_of p (ReadI2c answer) ss s = keeping p (i2c_read answer ss s)
+wave_of p Exchange ss s = leaving (packet_after p ss s) (spi_exchange p)
+wave_of p ResetOneWire ss s = keeping p (one_wire_reset p.timings ss s)
+wave_of p (WriteOneWire x) ss s = keeping p (one_wire_write p.timings 8 release x)
+wave_of p (WriteOneWireBit x) ss s = keeping p (one_wire_write p.timings 1 release x)
+wave_of p (WriteOneWireStrong x) ss s = keeping p (one_wire_write p.timings 8 drive_high x)
+wave_of p ReadOneWire ss s = keeping p (one_wire_read p.timings ss s)
+wave_of p ReadOneWireBit ss s = keeping p (one_wire_read_bit p.timings ss s)

@@ -3,9 +3,9 @@ ghost use Rattle.std.specs.Prelude.{◌≡◌, ◌≤◌, ◌<◌, length};
 ghost use Rattle.wire.specs.Action.{bytes_of};
 ghost use Rattle.wire.specs.Buffer.{Written};
 ghost use Rattle.packet.specs.Packet.{width};
-ghost use Rattle.lines.specs.Waves.{measureOf};
-ghost use Rattle.signals.specs.Waveforms.{waveOf};
-ghost use Rattle.signals.specs.Sensed.{senseOf, onLines};
+ghost use Rattle.lines.specs.Waves.{measure_of};
+ghost use Rattle.signals.specs.Waveforms.{wave_of};
+ghost use Rattle.signals.specs.Sensed.{sense_of, on_lines};
 
 use lines::{Measured, ports, pulses, singles};
 use packet::Register;
@@ -72,7 +72,7 @@ pub struct Sensed {
 // What the waveform's bus measures of it.
 fn measure(page: Page, wave: Waveform, samples: &[u8], from: usize) -> Measured
     requires { (page.size < width) × (from ≤ length samples.now) }
-    ensures { result ≡ measureOf (onLines (waveOf page wave samples.now from)) }
+    ensures { result ≡ measure_of (on_lines (wave_of page wave samples.now from)) }
 {
     let ts = page.timings;
     match wave {
@@ -108,7 +108,7 @@ fn measure(page: Page, wave: Waveform, samples: &[u8], from: usize) -> Measured
 // The packet register after a waveform; an exchange alone gives another.
 fn packet_after(page: Page, wave: Waveform, samples: &[u8], from: usize) -> Register
     requires { (page.size < width) × (from ≤ length samples.now) }
-    ensures { result ≡ (waveOf page wave samples.now from).packet }
+    ensures { result ≡ (wave_of page wave samples.now from).packet }
 {
     match wave {
         Waveform::Exchange => spi_bus::packet_after(page, samples, from),
@@ -120,7 +120,7 @@ fn packet_after(page: Page, wave: Waveform, samples: &[u8], from: usize) -> Regi
 // The caller shows that the size register is in range and that the mark is not past the samples' end.
 pub fn sense(page: Page, wave: Waveform, samples: &[u8], from: usize) -> Sensed
     requires { (page.size < width) × (from ≤ length samples.now) }
-    ensures { result ≡ senseOf (waveOf page wave samples.now from) }
+    ensures { result ≡ sense_of (wave_of page wave samples.now from) }
 {
     let m = measure(page, wave, samples, from);
     let packet = packet_after(page, wave, samples, from);
@@ -135,8 +135,8 @@ pub fn sense(page: Page, wave: Waveform, samples: &[u8], from: usize) -> Sensed
 // Writes a waveform's actions at the start of the unused part of a lent buffer, and answers how many bytes they are.
 // The caller shows that the size register is in range and that they fit.
 pub fn write(out: &mut [u8], page: Page, wave: Waveform, samples: &[u8], from: usize) -> usize
-    requires { (page.size < width) × (length (bytes_of (waveOf page wave samples.now from).actions) ≤ length out.old) }
-    ensures { Written out.old 0 (bytes_of (waveOf page wave samples.now from).actions) out.new result }
+    requires { (page.size < width) × (length (bytes_of (wave_of page wave samples.now from).actions) ≤ length out.old) }
+    ensures { Written out.old 0 (bytes_of (wave_of page wave samples.now from).actions) out.new result }
 {
     let ts = page.timings;
     match wave {

@@ -4,9 +4,9 @@ ghost use Rattle.wire.specs.Action.{bytes_of, sck};
 ghost use Rattle.wire.specs.Buffer.{Written};
 ghost use Rattle.packet.specs.Packet.{width, sent};
 ghost use Rattle.packet.specs.Shift.{exchanged};
-ghost use Rattle.lines.specs.Lines.{driven, forEach, levels};
-ghost use Rattle.lines.specs.Waves.{measureOf};
-ghost use Rattle.spi_bus.specs.Spi.{spiBit, spiExchange, packetAfter};
+ghost use Rattle.lines.specs.Lines.{driven, for_each, levels};
+ghost use Rattle.lines.specs.Waves.{measure_of};
+ghost use Rattle.spi_bus.specs.Spi.{spi_bit, spi_exchange, packet_after};
 
 use lines::{Measured, readings, several};
 use packet::Register;
@@ -30,7 +30,7 @@ const BIT_ACTIONS: usize = 4;
 // 46: an exchange of N bits. The caller shows that the size register is in range.
 pub fn measure_exchange(page: Page) -> Measured
     requires { page.size < width }
-    ensures { result ≡ measureOf (spiExchange page) }
+    ensures { result ≡ measure_of (spi_exchange page) }
 {
     let n = parts::bits_of(page.size) as usize;
     Measured {
@@ -43,7 +43,7 @@ pub fn measure_exchange(page: Page) -> Measured
 // One bit exchanged: with CPHA 0 the sample stands before the clock's return, with CPHA 1 after it.
 fn put_bit(out: &mut [u8], polarity: u8, phase: bool, bit: u8) -> usize
     requires { (16 ≤ length out.old) × ((polarity < 2) × (bit < 2)) }
-    ensures { Written out.old 0 (bytes_of (spiBit polarity phase bit)) out.new result }
+    ensures { Written out.old 0 (bytes_of (spi_bit polarity phase bit)) out.new result }
 {
     let away = lines::verb_for(HIGH, 1 - polarity);
     let back = lines::verb_for(HIGH, polarity);
@@ -56,8 +56,8 @@ fn put_bit(out: &mut [u8], polarity: u8, phase: bool, bit: u8) -> usize
 
 // SCK to CPOL, and then n bits exchanged: whole bytes, eight bits each, and those that are left.
 fn put_bits(out: &mut [u8], r: Register, n: u8, high: bool, polarity: u8, phase: bool) -> usize
-    requires { (n ≤ width) × ((polarity < 2) × (length (bytes_of (driven sck polarity ∷ forEach (spiBit polarity phase) (sent n high r))) ≤ length out.old)) }
-    ensures { Written out.old 0 (bytes_of (driven sck polarity ∷ forEach (spiBit polarity phase) (sent n high r))) out.new result }
+    requires { (n ≤ width) × ((polarity < 2) × (length (bytes_of (driven sck polarity ∷ for_each (spi_bit polarity phase) (sent n high r))) ≤ length out.old)) }
+    ensures { Written out.old 0 (bytes_of (driven sck polarity ∷ for_each (spi_bit polarity phase) (sent n high r))) out.new result }
 {
     let mut at = wire::put_action(out, lines::verb_for(HIGH, polarity), SCK, 0);
     let mut i: u8 = 0;
@@ -83,8 +83,8 @@ fn put_bits(out: &mut [u8], r: Register, n: u8, high: bool, polarity: u8, phase:
 
 // Writes the actions of an exchange, for which the caller shows the room and that the size register is in range.
 pub fn put_exchange(out: &mut [u8], page: Page) -> usize
-    requires { (page.size < width) × (length (bytes_of (spiExchange page).actions) ≤ length out.old) }
-    ensures { Written out.old 0 (bytes_of (spiExchange page).actions) out.new result }
+    requires { (page.size < width) × (length (bytes_of (spi_exchange page).actions) ≤ length out.old) }
+    ensures { Written out.old 0 (bytes_of (spi_exchange page).actions) out.new result }
 {
     let r = page.packet;
     let n = parts::bits_of(page.size);
@@ -117,7 +117,7 @@ fn exchange(r: Register, samples: &[u8], from: usize, n: u8, high: bool) -> Regi
 // samples' end.
 pub fn packet_after(page: Page, samples: &[u8], from: usize) -> Register
     requires { (page.size < width) × (from ≤ length samples.now) }
-    ensures { result ≡ packetAfter page samples.now from }
+    ensures { result ≡ packet_after page samples.now from }
 {
     let r = page.packet;
     let n = parts::bits_of(page.size);

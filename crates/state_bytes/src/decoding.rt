@@ -1,8 +1,8 @@
 // A state read from its bytes.
 ghost use Rattle.std.specs.Prelude.{◌≡◌, ◌+◌, ◌≤◌, length};
-ghost use Rattle.packet.specs.Packet.{registerBytes};
-ghost use Rattle.registers.specs.Registers.{timingBytes, imageBytes, serialBytes, heldBytes};
-ghost use Rattle.state_bytes.specs.StateBytes.{stateSize, piece, waitOf, pageIn, sharedIn, stateIn, isState};
+ghost use Rattle.packet.specs.Packet.{register_bytes};
+ghost use Rattle.registers.specs.Registers.{timing_bytes, image_bytes, serial_bytes, held_bytes};
+ghost use Rattle.state_bytes.specs.StateBytes.{state_size, piece, wait_of, page_in, shared_in, state_in, is_state};
 
 use registers::{Operand, Page, PortRegister, Shared, State, Wait};
 
@@ -34,7 +34,7 @@ pub const SIZE: usize = AT_DROP + 1;
 
 // What is waited for, by its number; nothing for a number that is none.
 fn wait_of(code: u8, left: u8) -> Wait
-    ensures { result ≡ waitOf code left }
+    ensures { result ≡ wait_of code left }
 {
     match code {
         0 => Wait::Nothing,
@@ -67,8 +67,8 @@ fn wait_of(code: u8, left: u8) -> Wait
 
 // A part of the bytes as an array, one function for each size. The caller shows that it lies within them.
 fn packet_at(bytes: &[u8], at: usize) -> packet::Register
-    requires { at + registerBytes ≤ length bytes.now }
-    ensures { result ≡ piece bytes.now at registerBytes }
+    requires { at + register_bytes ≤ length bytes.now }
+    ensures { result ≡ piece bytes.now at register_bytes }
 {
     let mut r = [0u8; packet::BYTES];
     let end = at + packet::BYTES;
@@ -77,8 +77,8 @@ fn packet_at(bytes: &[u8], at: usize) -> packet::Register
 }
 
 fn timings_at(bytes: &[u8], at: usize) -> [u8; registers::TIMINGS]
-    requires { at + timingBytes ≤ length bytes.now }
-    ensures { result ≡ piece bytes.now at timingBytes }
+    requires { at + timing_bytes ≤ length bytes.now }
+    ensures { result ≡ piece bytes.now at timing_bytes }
 {
     let mut r = [0u8; registers::TIMINGS];
     let end = at + registers::TIMINGS;
@@ -87,8 +87,8 @@ fn timings_at(bytes: &[u8], at: usize) -> [u8; registers::TIMINGS]
 }
 
 fn eprom_at(bytes: &[u8], at: usize) -> [u8; registers::IMAGE]
-    requires { at + imageBytes ≤ length bytes.now }
-    ensures { result ≡ piece bytes.now at imageBytes }
+    requires { at + image_bytes ≤ length bytes.now }
+    ensures { result ≡ piece bytes.now at image_bytes }
 {
     let mut r = [0u8; registers::IMAGE];
     let end = at + registers::IMAGE;
@@ -97,8 +97,8 @@ fn eprom_at(bytes: &[u8], at: usize) -> [u8; registers::IMAGE]
 }
 
 fn serial_at(bytes: &[u8], at: usize) -> [u8; registers::SERIAL]
-    requires { at + serialBytes ≤ length bytes.now }
-    ensures { result ≡ piece bytes.now at serialBytes }
+    requires { at + serial_bytes ≤ length bytes.now }
+    ensures { result ≡ piece bytes.now at serial_bytes }
 {
     let mut r = [0u8; registers::SERIAL];
     let end = at + registers::SERIAL;
@@ -107,8 +107,8 @@ fn serial_at(bytes: &[u8], at: usize) -> [u8; registers::SERIAL]
 }
 
 fn held_at(bytes: &[u8], at: usize) -> [u8; registers::HELD]
-    requires { at + heldBytes ≤ length bytes.now }
-    ensures { result ≡ piece bytes.now at heldBytes }
+    requires { at + held_bytes ≤ length bytes.now }
+    ensures { result ≡ piece bytes.now at held_bytes }
 {
     let mut r = [0u8; registers::HELD];
     let end = at + registers::HELD;
@@ -118,8 +118,8 @@ fn held_at(bytes: &[u8], at: usize) -> [u8; registers::HELD]
 
 // The registers. The caller shows that the bytes are as many as a state's.
 fn page(bytes: &[u8]) -> Page
-    requires { length bytes.now ≡ stateSize }
-    ensures { result ≡ pageIn bytes.now }
+    requires { length bytes.now ≡ state_size }
+    ensures { result ≡ page_in bytes.now }
 {
     let packet = packet_at(bytes, AT_PACKET);
     let timings = timings_at(bytes, AT_TIMINGS);
@@ -142,8 +142,8 @@ fn page(bytes: &[u8]) -> Page
 
 // What is no register. The caller shows that the bytes are as many as a state's.
 fn shared(bytes: &[u8]) -> Shared
-    requires { length bytes.now ≡ stateSize }
-    ensures { result ≡ sharedIn bytes.now }
+    requires { length bytes.now ≡ state_size }
+    ensures { result ≡ shared_in bytes.now }
 {
     let eprom = eprom_at(bytes, AT_EPROM);
     let serial = serial_at(bytes, AT_SERIAL);
@@ -157,7 +157,7 @@ fn shared(bytes: &[u8]) -> Shared
 
 // Whether bytes are a state's.
 pub fn is_state(bytes: &[u8]) -> bool
-    ensures { result ≡ isState bytes.now }
+    ensures { result ≡ is_state bytes.now }
 {
     if bytes.len() != SIZE {
         return false;
@@ -171,8 +171,8 @@ pub fn is_state(bytes: &[u8]) -> bool
 
 // The state of bytes. The caller shows that they are as many as a state's.
 pub fn state_of(bytes: &[u8]) -> State
-    requires { length bytes.now ≡ stateSize }
-    ensures { result ≡ stateIn bytes.now }
+    requires { length bytes.now ≡ state_size }
+    ensures { result ≡ state_in bytes.now }
 {
     let page = page(bytes);
     let shared = shared(bytes);

@@ -1,13 +1,13 @@
 // A state written as bytes.
 ghost use Rattle.std.specs.Prelude.{◌≡◌, cond, ◌+◌, ◌≤◌, length};
 ghost use Rattle.wire.specs.Buffer.{Written};
-ghost use Rattle.state_bytes.specs.StateBytes.{atEprom, atWait, stateSize, portCode, operandCode, waitCode, waitLeft};
+ghost use Rattle.state_bytes.specs.StateBytes.{at_eprom, at_wait, state_size, port_code, operand_code, wait_code, wait_left};
 ghost use Rattle.state_bytes.specs.Parts.{PagePut, SharedPut, WaitPut, StatePut, Stored};
 
 use registers::{Operand, Page, PortRegister, Shared, State, Wait};
 
 fn port_code(r: PortRegister) -> u8
-    ensures { result ≡ portCode r }
+    ensures { result ≡ port_code r }
 {
     match r {
         PortRegister::Ddrb => 1,
@@ -20,7 +20,7 @@ fn port_code(r: PortRegister) -> u8
 }
 
 fn operand_code(o: Operand) -> u8
-    ensures { result ≡ operandCode o }
+    ensures { result ≡ operand_code o }
 {
     match o {
         Operand::ToPort(r) => port_code(r),
@@ -36,7 +36,7 @@ fn operand_code(o: Operand) -> u8
 
 // What is waited for, as a number.
 fn wait_code(w: Wait) -> u8
-    ensures { result ≡ waitCode w }
+    ensures { result ≡ wait_code w }
 {
     match w {
         Wait::Nothing => 0,
@@ -54,7 +54,7 @@ fn wait_code(w: Wait) -> u8
 
 // How many more bytes are waited for, with packet and timing waits.
 fn wait_left(w: Wait) -> u8
-    ensures { result ≡ waitLeft w }
+    ensures { result ≡ wait_left w }
 {
     match w {
         Wait::Nothing => 0,
@@ -96,7 +96,7 @@ fn put_held(out: &mut [u8], at: usize, bytes: [u8; registers::HELD]) -> usize
 
 // The registers, at the front of a buffer in which the caller shows room for them.
 fn put_page(out: &mut [u8], p: Page) -> usize
-    requires { atEprom ≤ length out.old }
+    requires { at_eprom ≤ length out.old }
     ensures { PagePut p out.old out.new result }
 {
     let configured = mark(p.configured);
@@ -113,7 +113,7 @@ fn put_page(out: &mut [u8], p: Page) -> usize
 
 // What is no register, at its place.
 fn put_shared(out: &mut [u8], at: usize, h: Shared) -> usize
-    requires { (at ≡ atEprom) × (atWait ≤ length out.old) }
+    requires { (at ≡ at_eprom) × (at_wait ≤ length out.old) }
     ensures { SharedPut h at out.old out.new result }
 {
     let eprom = h.eprom;
@@ -125,7 +125,7 @@ fn put_shared(out: &mut [u8], at: usize, h: Shared) -> usize
 
 // The wait, what is held for it, and the drop, at their place.
 fn put_wait(out: &mut [u8], at: usize, w: Wait, held: [u8; registers::HELD], pending: bool) -> usize
-    requires { (at ≡ atWait) × (stateSize ≤ length out.old) }
+    requires { (at ≡ at_wait) × (state_size ≤ length out.old) }
     ensures { WaitPut w held pending at out.old out.new result }
 {
     let code = wait_code(w);
@@ -138,7 +138,7 @@ fn put_wait(out: &mut [u8], at: usize, w: Wait, held: [u8; registers::HELD], pen
 
 // Writes a state's bytes at the front of a buffer in which the caller shows room for them.
 fn put_state(out: &mut [u8], s: State) -> usize
-    requires { stateSize ≤ length out.old }
+    requires { state_size ≤ length out.old }
     ensures { StatePut s out.old out.new result }
 {
     let page = s.page;
@@ -152,7 +152,7 @@ fn put_state(out: &mut [u8], s: State) -> usize
 
 // The state goes to lent bytes. The caller shows that they are as many as a state's.
 pub fn store(bytes: &mut [u8], s: State)
-    requires { length bytes.old ≡ stateSize }
+    requires { length bytes.old ≡ state_size }
     ensures { Stored s bytes.new }
 {
     put_state(bytes, s);

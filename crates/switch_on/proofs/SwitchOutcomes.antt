@@ -6,91 +6,91 @@ use mathlib.Core.List.{List, []}
 use native.Mathlib.Omega.{arith}
 use lib.ListN.{get_or, length}
 use Rattle.wire.specs.Action.{bytes_of}
-use Rattle.wire.specs.Buffer.{overwrite, fitsIn}
-use Rattle.wire.proofs.Actions.{actions-count}
+use Rattle.wire.specs.Buffer.{overwrite, fits_in}
+use Rattle.wire.proofs.Actions.{actions_count}
 use Rattle.registers.specs.declared.Page.{Page}
 use Rattle.registers.specs.declared.State.{State}
 use Rattle.refusals.specs.declared.Refusal.{Refusal}
-use Rattle.registers.specs.Registers.{autoloadOn, imageBytes}
-use Rattle.settings.specs.Images.{isGood}
-use Rattle.settings.proofs.Good.{good-size}
-use Rattle.switch_on.specs.SwitchOn.{Device, SwitchedOn, On, usedOf, epromOf, state_of, onActions, switched, refusal, reasonFor, isOn, onPage, actionsFit, switchOf, settingsOf}
+use Rattle.registers.specs.Registers.{autoload_on, image_bytes}
+use Rattle.settings.specs.Images.{is_good}
+use Rattle.settings.proofs.Good.{good_size}
+use Rattle.switch_on.specs.SwitchOn.{Device, SwitchedOn, On, used_of, eprom_of, state_of, on_actions, switched, refusal, reason_for, is_on, on_page, actions_fit, switch_of, settings_of}
 
 module _ (stored factory : List ℕ) where
   -- g says whether the stored image is good, and a whether it sets AUTOLOAD_EN
-  module _ {g a : Bool} (eg : g ≡ isGood stored) (ea : a ≡ autoloadOn (get_or stored 0 0)) where
-    pub used-stored : g && a ≡ true → stored ≡ usedOf stored factory
-    unfolding usedOf
-    used-stored h = rw (← eg, ← ea, h)
+  module _ {g a : Bool} (eg : g ≡ is_good stored) (ea : a ≡ autoload_on (get_or stored 0 0)) where
+    pub used_stored : g && a ≡ true → stored ≡ used_of stored factory
+    unfolding used_of
+    used_stored h = rw (← eg, ← ea, h)
 
-    pub used-factory : g && a ≡ false → factory ≡ usedOf stored factory
-    unfolding usedOf
-    used-factory h = rw (← eg, ← ea, h)
+    pub used_factory : g && a ≡ false → factory ≡ used_of stored factory
+    unfolding used_of
+    used_factory h = rw (← eg, ← ea, h)
 
   module _ (size mark : ℕ) where
     -- the page is the used image's, and so many are the bytes of its actions
-    module _ {p : Page} (ep : p ≡ onPage stored factory) {n : ℕ} (en : n ≡ length (bytes_of (onActions p))) where
-      pub same-fit : fitsIn size mark n ≡ actionsFit stored factory size mark
-      same-fit = ap (fitsIn size mark) (en ∙ ap (λ (q : Page). length (bytes_of (onActions q))) ep)
+    module _ {p : Page} (ep : p ≡ on_page stored factory) {n : ℕ} (en : n ≡ length (bytes_of (on_actions p))) where
+      pub same_fit : fits_in size mark n ≡ actions_fit stored factory size mark
+      same_fit = ap (fits_in size mark) (en ∙ ap (λ (q : Page). length (bytes_of (on_actions q))) ep)
 
-    pub none-good : isGood factory ≡ false → [] ≡ settingsOf stored factory size mark
-    unfolding settingsOf
-    none-good h = rw h
+    pub none_good : is_good factory ≡ false → [] ≡ settings_of stored factory size mark
+    unfolding settings_of
+    none_good h = rw h
 
-    pub none-fit : isGood factory ≡ true → actionsFit stored factory size mark ≡ false → [] ≡ settingsOf stored factory size mark
-    unfolding settingsOf
-    none-fit h k = rw (h, k)
+    pub none_fit : is_good factory ≡ true → actions_fit stored factory size mark ≡ false → [] ≡ settings_of stored factory size mark
+    unfolding settings_of
+    none_fit h k = rw (h, k)
 
-    pub some-used : isGood factory ≡ true → actionsFit stored factory size mark ≡ true → usedOf stored factory ≡ settingsOf stored factory size mark
-    unfolding settingsOf
-    some-used h k = rw (h, k)
+    pub some_used : is_good factory ≡ true → actions_fit stored factory size mark ≡ true → used_of stored factory ≡ settings_of stored factory size mark
+    unfolding settings_of
+    some_used h k = rw (h, k)
 
     -- where there are settings, switch-on is not refused, and they are the image used
     pub record HasSettings : Type 0 where
-      pub good : isGood factory ≡ true
-      pub fits : actionsFit stored factory size mark ≡ true
-      pub used : settingsOf stored factory size mark ≡ usedOf stored factory
+      pub good : is_good factory ≡ true
+      pub fits : actions_fit stored factory size mark ≡ true
+      pub used : settings_of stored factory size mark ≡ used_of stored factory
 
-    pub some-settings : {r : List ℕ} → r ≡ settingsOf stored factory size mark → (length r ≡ 0 → ⊥) → HasSettings
-    unfolding settingsOf
-    some-settings q n = go (isGood factory) refl (actionsFit stored factory size mark) refl
+    pub some_settings : {r : List ℕ} → r ≡ settings_of stored factory size mark → (length r ≡ 0 → ⊥) → HasSettings
+    unfolding settings_of
+    some_settings q n = go (is_good factory) refl (actions_fit stored factory size mark) refl
       where
-        go : (t : Bool) → isGood factory ≡ t → (u : Bool) → actionsFit stored factory size mark ≡ u → HasSettings
+        go : (t : Bool) → is_good factory ≡ t → (u : Bool) → actions_fit stored factory size mark ≡ u → HasSettings
         go true h true k = record { good = h; fits = k; used = rw (h, k) }
         go true h false k = absurd (n (ap length q ∙ rw (h, k)))
         go false h u k = absurd (n (ap length q ∙ rw h))
 
     -- a good image is not empty
-    used-size : isGood factory ≡ true → length (usedOf stored factory) ≡ imageBytes
-    unfolding usedOf
-    used-size h = go (isGood stored) refl (autoloadOn (get_or stored 0 0))
+    used_size : is_good factory ≡ true → length (used_of stored factory) ≡ image_bytes
+    unfolding used_of
+    used_size h = go (is_good stored) refl (autoload_on (get_or stored 0 0))
       where
-        go : (t : Bool) → isGood stored ≡ t → (u : Bool) → length (cond (t && u) stored factory) ≡ imageBytes
-        go true g true = good-size stored g
-        go true g false = good-size factory h
-        go false g u = good-size factory h
+        go : (t : Bool) → is_good stored ≡ t → (u : Bool) → length (cond (t && u) stored factory) ≡ image_bytes
+        go true g true = good_size stored g
+        go true g false = good_size factory h
+        go false g u = good_size factory h
 
-    pub no-settings : {r : List ℕ} → r ≡ settingsOf stored factory size mark → length r ≡ 0 → isOn stored factory size mark ≡ false
-    unfolding settingsOf
-    no-settings q e = go (isGood factory) refl (actionsFit stored factory size mark) refl
+    pub no_settings : {r : List ℕ} → r ≡ settings_of stored factory size mark → length r ≡ 0 → is_on stored factory size mark ≡ false
+    unfolding settings_of
+    no_settings q e = go (is_good factory) refl (actions_fit stored factory size mark) refl
       where
-        go : (t : Bool) → isGood factory ≡ t → (u : Bool) → actionsFit stored factory size mark ≡ u → isOn stored factory size mark ≡ false
+        go : (t : Bool) → is_good factory ≡ t → (u : Bool) → actions_fit stored factory size mark ≡ u → is_on stored factory size mark ≡ false
         go true h true k =
-            let e' : length (usedOf stored factory) ≡ 0 = let on : isOn stored factory size mark ≡ true = rw (h, k) in subst (λ (b : Bool). length (cond b (usedOf stored factory) []) ≡ 0) on (sym (ap length q) ∙ e) in
-            absurd (omega (arith, used-size h, e'))
+            let e' : length (used_of stored factory) ≡ 0 = let on : is_on stored factory size mark ≡ true = rw (h, k) in subst (λ (b : Bool). length (cond b (used_of stored factory) []) ≡ 0) on (sym (ap length q) ∙ e) in
+            absurd (omega (arith, used_size h, e'))
         go true h false k = rw (h, k)
         go false h u k = rw h
 
   module _ (d : Device) (buffer : List ℕ) (mark : ℕ) where
-    pub refuse : isOn stored factory (length buffer) mark ≡ false → {r : SwitchedOn} {why : Refusal} → r ≡ refusal why → why ≡ reasonFor factory
-        → switched r buffer ≡ switchOf stored factory d buffer mark
-    unfolding switchOf
+    pub refuse : is_on stored factory (length buffer) mark ≡ false → {r : SwitchedOn} {why : Refusal} → r ≡ refusal why → why ≡ reason_for factory
+        → switched r buffer ≡ switch_of stored factory d buffer mark
+    unfolding switch_of
     refuse h q w = rw (h, q, w)
 
     pub goes_on : HasSettings (length buffer) mark
-        → {p : Page} → p ≡ onPage stored factory → {n : ℕ} → n ≡ length (bytes_of (onActions p)) → {e b : List ℕ} {s : State} → e ≡ epromOf stored factory → s ≡ state_of p e d → b ≡ overwrite buffer mark (bytes_of (onActions p))
-        → switched (record { bridge = record { state = s }; outcome = On; actions = n / 4 }) b ≡ switchOf stored factory d buffer mark
-    unfolding switchOf
+        → {p : Page} → p ≡ on_page stored factory → {n : ℕ} → n ≡ length (bytes_of (on_actions p)) → {e b : List ℕ} {s : State} → e ≡ eprom_of stored factory → s ≡ state_of p e d → b ≡ overwrite buffer mark (bytes_of (on_actions p))
+        → switched (record { bridge = record { state = s }; outcome = On; actions = n / 4 }) b ≡ switch_of stored factory d buffer mark
+    unfolding switch_of
     goes_on t {p} ep {n} en ee es eb =
-        let q : n / 4 ≡ length (onActions p) = ap (λ (x : ℕ). x / 4) en ∙ actions-count (onActions p) in
+        let q : n / 4 ≡ length (on_actions p) = ap (λ (x : ℕ). x / 4) en ∙ actions_count (on_actions p) in
         rw (t.good, t.fits, q, es, ee, eb, ep)

@@ -2,7 +2,7 @@
 ghost use Rattle.std.specs.Prelude.{◌≡◌, ◌≤◌, length};
 ghost use Rattle.wire.specs.Action.{bytes_of};
 ghost use Rattle.wire.specs.Buffer.{Written};
-ghost use Rattle.switch_on.specs.SwitchOn.{selectActions, onActions};
+ghost use Rattle.switch_on.specs.SwitchOn.{select_actions, on_actions};
 
 use registers::Page;
 use registers::parts::{i2c_selected, spi_selected};
@@ -14,7 +14,7 @@ pub(crate) const MOST: usize = 7 * wire::ACTION_BYTES;
 
 // How many bytes the actions are.
 pub(crate) fn size(page: Page) -> usize
-    ensures { result ≡ length (bytes_of (onActions page)) }
+    ensures { result ≡ length (bytes_of (on_actions page)) }
 {
     if i2c_selected(page.flags) {
         return MOST;
@@ -27,8 +27,8 @@ pub(crate) fn size(page: Page) -> usize
 
 // Writes CS or SS high, or nothing, at the start of the unused part of a lent buffer, for which the caller shows the room.
 fn put_select(out: &mut [u8], flags: u8) -> usize
-    requires { length (bytes_of (selectActions flags)) ≤ length out.old }
-    ensures { Written out.old 0 (bytes_of (selectActions flags)) out.new result }
+    requires { length (bytes_of (select_actions flags)) ≤ length out.old }
+    ensures { Written out.old 0 (bytes_of (select_actions flags)) out.new result }
 {
     if i2c_selected(flags) {
         return wire::put_action(out, wire::VERB_DRIVE_HIGH, wire::LINE_CS, 0);
@@ -41,8 +41,8 @@ fn put_select(out: &mut [u8], flags: u8) -> usize
 
 // Writes the actions at the start of the unused part of a lent buffer, for which the caller shows the room.
 pub(crate) fn put(out: &mut [u8], page: Page) -> usize
-    requires { length (bytes_of (onActions page)) ≤ length out.old }
-    ensures { Written out.old 0 (bytes_of (onActions page)) out.new result }
+    requires { length (bytes_of (on_actions page)) ≤ length out.old }
+    ensures { Written out.old 0 (bytes_of (on_actions page)) out.new result }
 {
     let at = lines::ports::put_ports(
         out, page.ddrb, page.portb, page.ddrc, page.portc, page.ddrd, page.portd,

@@ -2,7 +2,7 @@
 ghost use Rattle.std.specs.Prelude.{◌≡◌, []};
 ghost use Rattle.packet.specs.Register.{zeros};
 ghost use Rattle.switch_on.specs.Start.{starting};
-ghost use Rattle.switch_on.specs.SwitchOn.{state_of, zeroState, switched, refusal, reasonFor, switchOf, settingsOf};
+ghost use Rattle.switch_on.specs.SwitchOn.{state_of, zero_state, switched, refusal, reason_for, switch_of, settings_of};
 
 mod actions;
 mod images;
@@ -36,7 +36,7 @@ pub struct SwitchedOn {
 
 // The state where all is zero.
 fn zero() -> State
-    ensures { result ≡ zeroState }
+    ensures { result ≡ zero_state }
 {
     State {
         page: Page {
@@ -101,7 +101,7 @@ fn state(page: Page, eprom: [u8; registers::IMAGE], device: Device) -> State
 // The part of one of the two images that is used; where switch-on is refused, the empty front part of the factory image. The
 // room is the size of the buffer for the actions, with its mark.
 pub fn settings<'a>(stored: &'a [u8], factory: &'a [u8], room: usize, mark: usize) -> &'a [u8]
-    ensures { result.now ≡ settingsOf stored.now factory.now room mark }
+    ensures { result.now ≡ settings_of stored.now factory.now room mark }
 {
     if !settings::is_good(factory) {
         return &factory[..0];
@@ -116,7 +116,7 @@ pub fn settings<'a>(stored: &'a [u8], factory: &'a [u8], room: usize, mark: usiz
 
 // Why there are no settings: the factory image is not good, or else the actions do not fit.
 fn reason(factory: &[u8]) -> Refusal
-    ensures { result ≡ reasonFor factory.now }
+    ensures { result ≡ reason_for factory.now }
 {
     if settings::is_good(factory) {
         return Refusal::Actions;
@@ -132,7 +132,7 @@ pub fn switch_on<'a>(
     buffer: &mut [u8],
     mark: usize,
 ) -> SwitchedOn
-    ensures { switched result buffer.new ≡ switchOf stored.now factory.now device buffer.old mark }
+    ensures { switched result buffer.new ≡ switch_of stored.now factory.now device buffer.old mark }
 {
     let used = settings(stored, factory, buffer.len(), mark);
     if used.len() == 0 {
@@ -151,7 +151,7 @@ pub fn switch_on<'a>(
 
 // Switched on from a factory image, with no stored one.
 fn from_factory(factory: &[u8], device: Device) -> Bridge
-    ensures { result ≡ (switchOf [] factory.now device (zeros 28) 0).answer.bridge }
+    ensures { result ≡ (switch_of [] factory.now device (zeros 28) 0).answer.bridge }
 {
     let mut actions = [0u8; actions::MOST];
     let r = switch_on(&factory[..0], factory, device, &mut actions, 0);

@@ -6,9 +6,9 @@ use mathlib.Core.List.{List, []}
 use native.Mathlib.Omega.{arith}
 use lib.ListN.{length}
 use Rattle.wire.specs.Buffer.{Written}
-use Rattle.wire.proofs.Buffers.{overwrite-length}
+use Rattle.wire.proofs.Buffers.{overwrite_length}
 use Rattle.text.specs.Lists.{Read, Stop, Assembled, read, prefixed, Reads}
-use Rattle.text.proofs.Reading.{reads_none, reads-prefixed}
+use Rattle.text.proofs.Reading.{reads_none, reads_prefixed}
 
 -- at the loop's head: o and x are the buffer at the start and now; there are turns enough for what is left, and reading the rest
 -- reads the whole
@@ -33,18 +33,18 @@ module _ {whole : Read} {o : List ℕ} {from : ℕ} {rest : ℕ → Read} {left 
   last_turn d e {y} {r} q = by_turn (λ n h f. f y r (rw (e n) q))
 
   -- .. and reads nothing
-  pub loop-ends : (w : Stop) → ((n : ℕ) → rest (suc n) ≡ read [] w) → Reads whole o from x (record { size = size; stop = w })
-  loop-ends w e = last_turn (read [] w) e (reads_none x size w (omega (arith, l.within, l.same)))
+  pub loop_ends : (w : Stop) → ((n : ℕ) → rest (suc n) ≡ read [] w) → Reads whole o from x (record { size = size; stop = w })
+  loop_ends w e = last_turn (read [] w) e (reads_none x size w (omega (arith, l.within, l.same)))
 
   -- the turn writes xs, and less is left after it
-  pub loop-on : (xs : List ℕ) (next : ℕ → Read) (less : ℕ) → ((n : ℕ) → rest (suc n) ≡ prefixed xs (next n)) → less < left → {y : List ℕ} {k : ℕ} → Written x size xs y k → k ≤ length o → Loop whole o from next less y k
-  loop-on xs next less e h {y} {k} w j =
+  pub loop_on : (xs : List ℕ) (next : ℕ → Read) (less : ℕ) → ((n : ℕ) → rest (suc n) ≡ prefixed xs (next n)) → less < left → {y : List ℕ} {k : ℕ} → Written x size xs y k → k ≤ length o → Loop whole o from next less y k
+  loop_on xs next less e h {y} {k} w j =
       by_turn
       (λ n m f.
       record {
         turns = n;
         enough = omega (arith, h, m);
-        reads = λ z r q. f z r (rw (e n) (reads-prefixed x size xs (next n) w q));
+        reads = λ z r q. f z r (rw (e n) (reads_prefixed x size xs (next n) w q));
         within = j;
-        same = ap length w.bytes ∙ overwrite-length x size xs ∙ l.same;
+        same = ap length w.bytes ∙ overwrite_length x size xs ∙ l.same;
       })

@@ -8,31 +8,31 @@ pub use Rattle.text.specs.declared.numbers.Hex.{Hex}
 pub use Rattle.text.specs.declared.numbers.Hex.TheVariants as h
 
 -- a blank, a tabulator or a carriage return
-abbrev pub isBlank : ℕ → Bool
-isBlank b = eqb b 0x20 || eqb b 0x09 || eqb b 0x0D
+abbrev pub is_blank : ℕ → Bool
+is_blank b = eqb b 0x20 || eqb b 0x09 || eqb b 0x0D
 
 -- the line's end or a comment's `#`
-abbrev pub endsText : ℕ → Bool
-endsText b = eqb b 0x0A || eqb b 0x23
+abbrev pub ends_text : ℕ → Bool
+ends_text b = eqb b 0x0A || eqb b 0x23
 
 -- the bytes between words, those of a word, and those of a line
-abbrev pub isIn : Class → ℕ → Bool
-isIn k.Blank b = isBlank b
-isIn k.Word b = not (isBlank b || endsText b)
-isIn k.Line b = not (eqb b 0x0A)
+abbrev pub is_in : Class → ℕ → Bool
+is_in k.Blank b = is_blank b
+is_in k.Word b = not (is_blank b || ends_text b)
+is_in k.Line b = not (eqb b 0x0A)
 
 -- how many bytes at the front are of a class
 unfoldable pub span : Class → List ℕ → ℕ
 span c [] = 0
-span c (b ∷ bs) = cond (isIn c b) (suc (span c bs)) 0
+span c (b ∷ bs) = cond (is_in c b) (suc (span c bs)) 0
 
 -- the place past the bytes of a class from a place on
 abbrev pub past : List ℕ → Class → ℕ → ℕ
 past t c p = p + span c (drop p t)
 
 -- the next word from a place on, from its start to its end; where both are one, the line's text ends there
-unfoldable pub wordAt : List ℕ → ℕ → Word
-wordAt t p = record { start = past t k.Blank p; end = past t k.Word (past t k.Blank p) }
+unfoldable pub word_at : List ℕ → ℕ → Word
+word_at t p = record { start = past t k.Blank p; end = past t k.Word (past t k.Blank p) }
 
 abbrev pub text_of : List ℕ → Word → List ℕ
 text_of t w = part t w.start w.end
@@ -45,21 +45,21 @@ same (x ∷ xs) [] = false
 same (x ∷ xs) (y ∷ ys) = eqb x y && same xs ys
 
 -- a digit's value, 16 if it is none
-abbrev pub digitOf : ℕ → ℕ
-digitOf b =
+abbrev pub digit_of : ℕ → ℕ
+digit_of b =
     cond (ltb b 0x30) 16 (cond (ltb b 0x3A) (b - 0x30) (cond (ltb b 0x41) 16 (cond (ltb b 0x47) (b - 0x37) (cond (ltb b 0x61) 16 (cond (ltb b 0x67) (b - 0x57) 16)))))
 
 -- a byte is two hex digits
-abbrev pub hexOf : List ℕ → Hex
-hexOf w =
+abbrev pub hex_of : List ℕ → Hex
+hex_of w =
     cond (eqb (length w) 2)
-    (cond (ltb (digitOf (get_or w 0 0)) 16 && ltb (digitOf (get_or w 1 0)) 16) (h.Byte (16 * digitOf (get_or w 0 0) + digitOf (get_or w 1 0))) h.None)
+    (cond (ltb (digit_of (get_or w 0 0)) 16 && ltb (digit_of (get_or w 1 0)) 16) (h.Byte (16 * digit_of (get_or w 0 0) + digit_of (get_or w 1 0))) h.None)
     h.None
 
 -- a count is decimal, from 1 to 99,999; 0 if it is none
-unfoldable pub countFrom : ℕ → List ℕ → ℕ
-countFrom n [] = n
-countFrom n (b ∷ bs) = cond (ltb (digitOf b) 10 && leb n 9999) (countFrom (10 * n + digitOf b) bs) 0
+unfoldable pub count_from : ℕ → List ℕ → ℕ
+count_from n [] = n
+count_from n (b ∷ bs) = cond (ltb (digit_of b) 10 && leb n 9999) (count_from (10 * n + digit_of b) bs) 0
 
 abbrev pub count_of : List ℕ → ℕ
-count_of w = countFrom 0 w
+count_of w = count_from 0 w

@@ -1,7 +1,7 @@
 // Lists of bytes in a script.
 ghost use Rattle.std.specs.Prelude.{◌≡◌, ◌+◌, ◌-◌, ◌≤◌, length, replicate};
 ghost use Rattle.wire.specs.Buffer.{Written};
-ghost use Rattle.text.specs.Lists.{withCount, repeated, begun, item_at, list_of, Reads};
+ghost use Rattle.text.specs.Lists.{with_count, repeated, begun, item_at, list_of, Reads};
 
 use crate::numbers::Hex;
 use crate::words::{Word, word_at};
@@ -18,7 +18,7 @@ pub(crate) enum Item {
 // The count of a byte, which the word has to be. The caller shows that the word lies in the text.
 fn with_count(text: &[u8], byte: u8, w: Word) -> Item
     requires { (w.start ≤ w.end) × (w.end ≤ length text.now) }
-    ensures { result ≡ withCount text.now byte w }
+    ensures { result ≡ with_count text.now byte w }
 {
     let place = w.start;
     let next = w.end;

@@ -1,10 +1,10 @@
 // Commands by their names.
 ghost use Rattle.std.specs.Prelude.{◌≡◌};
-ghost use Rattle.text.specs.Named.{rowNamed};
+ghost use Rattle.text.specs.Named.{row_named};
 
 // The row of the command that a word names, ROWS if there is none.
 pub fn row_named(word: &[u8]) -> usize
-    ensures { result ≡ rowNamed word.now }
+    ensures { result ≡ row_named word.now }
 {
     if names::NAME_WIDTH < word.len() {
         return names::ROWS;

@@ -1,6 +1,6 @@
 // Numbers that words write.
 ghost use Rattle.std.specs.Prelude.{◌≡◌};
-ghost use Rattle.text.specs.Words.{digitOf, hexOf, count_of};
+ghost use Rattle.text.specs.Words.{digit_of, hex_of, count_of};
 
 // A byte in hex, or none.
 #[derive(Drop)]
@@ -11,7 +11,7 @@ pub(crate) enum Hex {
 
 // A digit's value, 16 if it is none.
 fn digit(b: u8) -> u8
-    ensures { result ≡ digitOf b }
+    ensures { result ≡ digit_of b }
 {
     if b < b'0' {
         return 16;
@@ -36,7 +36,7 @@ fn digit(b: u8) -> u8
 
 // The byte that a word writes in two hex digits.
 pub(crate) fn byte_of(word: &[u8]) -> Hex
-    ensures { result ≡ hexOf word.now }
+    ensures { result ≡ hex_of word.now }
 {
     if word.len() == 2 {
         let high = digit(word[0]);

@@ -1,6 +1,6 @@
 // The words of a script.
 ghost use Rattle.std.specs.Prelude.{◌≡◌};
-ghost use Rattle.text.specs.Words.{isIn, past, wordAt};
+ghost use Rattle.text.specs.Words.{is_in, past, word_at};
 
 // The bytes between words, those of a word, and those of a line.
 #[derive(Drop)]
@@ -19,7 +19,7 @@ pub struct Word {
 
 // Whether a byte is of a class.
 fn is_in(class: Class, b: u8) -> bool
-    ensures { result ≡ isIn class b }
+    ensures { result ≡ is_in class b }
 {
     match class {
         Class::Blank => (b == b' ') | (b == b'\t') | (b == b'\r'),
@@ -46,7 +46,7 @@ pub fn past(text: &[u8], class: Class, at: usize) -> usize
 
 // The next word from a place on.
 pub fn word_at(text: &[u8], at: usize) -> Word
-    ensures { result ≡ wordAt text.now at }
+    ensures { result ≡ word_at text.now at }
 {
     let start = past(text, Class::Blank, at);
     let end = past(text, Class::Word, start);

@@ -14,75 +14,75 @@ use Rattle.bridge.specs.Answering.{Given}
 use Rattle.bridge.specs.declared.Bridge.{Bridge}
 use Rattle.bridge.specs.declared.Outcome.{Outcome}
 use Rattle.bridge.specs.declared.Outcome.TheVariants.{Taken, Refused}
-use Rattle.records.specs.Contents.{eventsOf}
+use Rattle.records.specs.Contents.{events_of}
 use Rattle.wire.proofs.Choices.{by_bool, by_cond}
-use Rattle.transcript.specs.Transcript.{call_of, outputOf, mostOutput}
-use Rattle.transcript.specs.Events.{bridgeOf, Progress, halt, onward, progressOf, Reached, Reach}
-use Rattle.records.proofs.Parts.{events-length}
+use Rattle.transcript.specs.Transcript.{call_of, output_of, most_output}
+use Rattle.transcript.specs.Events.{bridge_of, Progress, halt, onward, progress_of, Reached, Reach}
+use Rattle.records.proofs.Parts.{events_length}
 
-pub progress_step : (n room : ℕ) (e : Event) (es : List Event) (b : Bridge) (ss : List ℕ) → mostOutput ≤ room
-    → progressOf (suc n) room (e ∷ es) b ss
-    ≡ onward (call_of b e ss).answer.outcome b (call_of b e ss) (progressOf n (room - length (outputOf (call_of b e ss))) es (call_of b e ss).answer.bridge (drop (call_of b e ss).answer.samples ss))
+pub progress_step : (n room : ℕ) (e : Event) (es : List Event) (b : Bridge) (ss : List ℕ) → most_output ≤ room
+    → progress_of (suc n) room (e ∷ es) b ss
+    ≡ onward (call_of b e ss).answer.outcome b (call_of b e ss) (progress_of n (room - length (output_of (call_of b e ss))) es (call_of b e ss).answer.bridge (drop (call_of b e ss).answer.samples ss))
 progress_step n room e es b ss h =
-    ap (λ (t : Bool). cond t (halt b Taken) (onward (call_of b e ss).answer.outcome b (call_of b e ss) (progressOf n (room - length (outputOf (call_of b e ss))) es (call_of b e ss).answer.bridge (drop (call_of b e ss).answer.samples ss)))) (le-ltb room mostOutput h)
+    ap (λ (t : Bool). cond t (halt b Taken) (onward (call_of b e ss).answer.outcome b (call_of b e ss) (progress_of n (room - length (output_of (call_of b e ss))) es (call_of b e ss).answer.bridge (drop (call_of b e ss).answer.samples ss)))) (le-ltb room most_output h)
 
-pub progress-short : (n room : ℕ) (es : List Event) (b : Bridge) (ss : List ℕ) → room < mostOutput → progressOf n room es b ss ≡ halt b Taken
-progress-short zero room es b ss h = refl
-progress-short (suc n) room [] b ss h = refl
-progress-short (suc n) room (e ∷ es) b ss h =
-    ap (λ (t : Bool). cond t (halt b Taken) (onward (call_of b e ss).answer.outcome b (call_of b e ss) (progressOf n (room - length (outputOf (call_of b e ss))) es (call_of b e ss).answer.bridge (drop (call_of b e ss).answer.samples ss)))) (lt-ltb room mostOutput h)
+pub progress_short : (n room : ℕ) (es : List Event) (b : Bridge) (ss : List ℕ) → room < most_output → progress_of n room es b ss ≡ halt b Taken
+progress_short zero room es b ss h = refl
+progress_short (suc n) room [] b ss h = refl
+progress_short (suc n) room (e ∷ es) b ss h =
+    ap (λ (t : Bool). cond t (halt b Taken) (onward (call_of b e ss).answer.outcome b (call_of b e ss) (progress_of n (room - length (output_of (call_of b e ss))) es (call_of b e ss).answer.bridge (drop (call_of b e ss).answer.samples ss)))) (lt-ltb room most_output h)
 
 -- no more events than there are
-pub progress-all : (n room : ℕ) (es : List Event) (b : Bridge) (ss : List ℕ) → length es ≤ n → progressOf (length es) room es b ss ≡ progressOf n room es b ss
-progress-all zero room [] b ss h = refl
-progress-all zero room (e ∷ es) b ss h = absurd (omega arith)
-progress-all (suc n) room [] b ss h = refl
-progress-all (suc n) room (e ∷ es) b ss h =
-    ap (λ (p : Progress). cond (ltb room mostOutput) (halt b Taken) (onward (call_of b e ss).answer.outcome b (call_of b e ss) p))
-    (progress-all n (room - length (outputOf (call_of b e ss))) es (call_of b e ss).answer.bridge (drop (call_of b e ss).answer.samples ss) (omega arith))
+pub progress_all : (n room : ℕ) (es : List Event) (b : Bridge) (ss : List ℕ) → length es ≤ n → progress_of (length es) room es b ss ≡ progress_of n room es b ss
+progress_all zero room [] b ss h = refl
+progress_all zero room (e ∷ es) b ss h = absurd (omega arith)
+progress_all (suc n) room [] b ss h = refl
+progress_all (suc n) room (e ∷ es) b ss h =
+    ap (λ (p : Progress). cond (ltb room most_output) (halt b Taken) (onward (call_of b e ss).answer.outcome b (call_of b e ss) p))
+    (progress_all n (room - length (output_of (call_of b e ss))) es (call_of b e ss).answer.bridge (drop (call_of b e ss).answer.samples ss) (omega arith))
 
 -- the events that were tried
 abbrev pub tried : Outcome → Progress → ℕ
 tried Taken p = p.read
 tried (Refused why) p = p.read + 1
 
-tried-onward : (t : Outcome) (b : Bridge) (g : Given) (p : Progress) → tried t (onward Taken b g p) ≡ 1 + tried t p
-tried-onward Taken b g p = refl
-tried-onward (Refused why) b g p = omega arith
+tried_onward : (t : Outcome) (b : Bridge) (g : Given) (p : Progress) → tried t (onward Taken b g p) ≡ 1 + tried t p
+tried_onward Taken b g p = refl
+tried_onward (Refused why) b g p = omega arith
 
-onward-few : (n : ℕ) (t : Outcome) (b : Bridge) (g : Given) (p : Progress) → tried p.outcome p ≤ n → tried (onward t b g p).outcome (onward t b g p) ≤ suc n
-onward-few n Taken b g p h = omega (arith, tried-onward p.outcome b g p)
-onward-few n (Refused why) b g p h = omega arith
+onward_few : (n : ℕ) (t : Outcome) (b : Bridge) (g : Given) (p : Progress) → tried p.outcome p ≤ n → tried (onward t b g p).outcome (onward t b g p) ≤ suc n
+onward_few n Taken b g p h = omega (arith, tried_onward p.outcome b g p)
+onward_few n (Refused why) b g p h = omega arith
 
-pub progress-few : (n room : ℕ) (es : List Event) (b : Bridge) (ss : List ℕ) → tried (progressOf n room es b ss).outcome (progressOf n room es b ss) ≤ n
-progress-few zero room es b ss = omega arith
-progress-few (suc n) room [] b ss = omega arith
-progress-few (suc n) room (e ∷ es) b ss =
-    by_cond (λ (p : Progress). tried p.outcome p ≤ suc n) (ltb room mostOutput) (λ _. omega arith)
-    (λ _. onward-few n (call_of b e ss).answer.outcome b (call_of b e ss) (progressOf n (room - length (outputOf (call_of b e ss))) es (call_of b e ss).answer.bridge (drop (call_of b e ss).answer.samples ss))
-    (progress-few n (room - length (outputOf (call_of b e ss))) es (call_of b e ss).answer.bridge (drop (call_of b e ss).answer.samples ss)))
+pub progress_few : (n room : ℕ) (es : List Event) (b : Bridge) (ss : List ℕ) → tried (progress_of n room es b ss).outcome (progress_of n room es b ss) ≤ n
+progress_few zero room es b ss = omega arith
+progress_few (suc n) room [] b ss = omega arith
+progress_few (suc n) room (e ∷ es) b ss =
+    by_cond (λ (p : Progress). tried p.outcome p ≤ suc n) (ltb room most_output) (λ _. omega arith)
+    (λ _. onward_few n (call_of b e ss).answer.outcome b (call_of b e ss) (progress_of n (room - length (output_of (call_of b e ss))) es (call_of b e ss).answer.bridge (drop (call_of b e ss).answer.samples ss))
+    (progress_few n (room - length (output_of (call_of b e ss))) es (call_of b e ss).answer.bridge (drop (call_of b e ss).answer.samples ss)))
 
 -- THE TESTS of the code
 
-pub range-broken : (n : ℕ) (t : Bool) → ltb 0 n && not t ≡ true → (0 < n) × (t ≡ false)
-range-broken n t h = (ltb-true 0 n (both_left (ltb 0 n) (not t) h), not-true t (both_right (ltb 0 n) (not t) h))
+pub range_broken : (n : ℕ) (t : Bool) → ltb 0 n && not t ≡ true → (0 < n) × (t ≡ false)
+range_broken n t h = (ltb-true 0 n (both_left (ltb 0 n) (not t) h), not-true t (both_right (ltb 0 n) (not t) h))
 
-pub range-kept : (n : ℕ) (t : Bool) → ltb 0 n && not t ≡ false → 0 < n → t ≡ true
-range-kept n true h k = refl
-range-kept n false h k = absurd (true≢false (sym (ap (λ (b : Bool). b && true) (lt-ltb 0 n k)) ∙ h))
+pub range_kept : (n : ℕ) (t : Bool) → ltb 0 n && not t ≡ false → 0 < n → t ≡ true
+range_kept n true h k = refl
+range_kept n false h k = absurd (true≢false (sym (ap (λ (b : Bool). b && true) (lt-ltb 0 n k)) ∙ h))
 
 -- at most as many events as there are and as the budget has
-pub least-within : (n size most : ℕ) → most ≡ cond (ltb size n) size n → most ≤ size
-least-within n size most e = by_bool (ltb size n) (λ t. let v : most ≡ size = rw t at e in omega arith) (λ t. let v : most ≡ n = rw t at e in omega (arith, ltb-false size n t))
+pub least_within : (n size most : ℕ) → most ≡ cond (ltb size n) size n → most ≤ size
+least_within n size most e = by_bool (ltb size n) (λ t. let v : most ≡ size = rw t at e in omega arith) (λ t. let v : most ≡ n = rw t at e in omega (arith, ltb-false size n t))
 
-pub least-reached : (n : ℕ) (s : State) (fault : Bool) (body ss o x : List ℕ) (most : ℕ) (r : Reach) → most ≡ cond (ltb (length body) n) (length body) n
-    → Reached (progressOf most (length o) (eventsOf fault body) (bridgeOf s) ss) (eventsOf fault body) ss o x r
-    → Reached (progressOf n (length o) (eventsOf fault body) (bridgeOf s) ss) (eventsOf fault body) ss o x r
-least-reached n s fault body ss o x most r e =
-    subst (λ (p : Progress). Reached p (eventsOf fault body) ss o x r)
+pub least_reached : (n : ℕ) (s : State) (fault : Bool) (body ss o x : List ℕ) (most : ℕ) (r : Reach) → most ≡ cond (ltb (length body) n) (length body) n
+    → Reached (progress_of most (length o) (events_of fault body) (bridge_of s) ss) (events_of fault body) ss o x r
+    → Reached (progress_of n (length o) (events_of fault body) (bridge_of s) ss) (events_of fault body) ss o x r
+least_reached n s fault body ss o x most r e =
+    subst (λ (p : Progress). Reached p (events_of fault body) ss o x r)
     (by_bool (ltb (length body) n)
     (λ t.
     let v : most ≡ length body = rw t at e in
-    ap (λ (m : ℕ). progressOf m (length o) (eventsOf fault body) (bridgeOf s) ss) (v ∙ sym (events-length fault body))
-    ∙ progress-all n (length o) (eventsOf fault body) (bridgeOf s) ss (omega (arith, events-length fault body, ltb-true (length body) n t)))
-    (λ t. let v : most ≡ n = rw t at e in ap (λ (m : ℕ). progressOf m (length o) (eventsOf fault body) (bridgeOf s) ss) v))
+    ap (λ (m : ℕ). progress_of m (length o) (events_of fault body) (bridge_of s) ss) (v ∙ sym (events_length fault body))
+    ∙ progress_all n (length o) (events_of fault body) (bridge_of s) ss (omega (arith, events_length fault body, ltb-true (length body) n t)))
+    (λ t. let v : most ≡ n = rw t at e in ap (λ (m : ℕ). progress_of m (length o) (events_of fault body) (bridge_of s) ss) v))

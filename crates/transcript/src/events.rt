@@ -1,9 +1,9 @@
 // The events of a body: one, and one after another.
 ghost use Rattle.std.specs.Prelude.{◌≡◌, cond, ◌≤◌, ◌<◌, ltb, length};
 ghost use Rattle.registers.specs.Ranges.{InRange};
-ghost use Rattle.records.specs.Contents.{eventsOf};
-ghost use Rattle.transcript.specs.Transcript.{call_of, mostOutput};
-ghost use Rattle.transcript.specs.Events.{bridgeOf, EventDone, progressOf, Reached};
+ghost use Rattle.records.specs.Contents.{events_of};
+ghost use Rattle.transcript.specs.Transcript.{call_of, most_output};
+ghost use Rattle.transcript.specs.Events.{bridge_of, EventDone, progress_of, Reached};
 
 use crate::{MOST_OUTPUT, output};
 use bridge::Outcome;
@@ -72,8 +72,8 @@ fn short() -> Done
 // An event with the samples unread; its records go to the front of the output. The caller shows that the state breaks no range and
 // that there is room for any event's output.
 pub fn take_event(s: State, event: Event, samples: &[u8], out: &mut [u8]) -> Done
-    requires { InRange s × (mostOutput ≤ length out.old) }
-    ensures { EventDone (call_of (bridgeOf s) event samples.now) samples.now out.old out.new result }
+    requires { InRange s × (most_output ≤ length out.old) }
+    ensures { EventDone (call_of (bridge_of s) event samples.now) samples.now out.old out.new result }
 {
     let r = measure(s, event, samples, 0);
     if !wire::fits(samples.len(), 0, r.used) {
@@ -106,7 +106,7 @@ fn run_in_range(
     out: &mut [u8],
 ) -> Reach
     requires { (0 < length body.now → InRange s) × (most ≤ length body.now) }
-    ensures { Reached (progressOf most (length out.old) (eventsOf fault body.now) (bridgeOf s) samples.now) (eventsOf fault body.now) samples.now out.old out.new result }
+    ensures { Reached (progress_of most (length out.old) (events_of fault body.now) (bridge_of s) samples.now) (events_of fault body.now) samples.now out.old out.new result }
 {
     let mut state = s;
     let mut read: usize = 0;
@@ -138,8 +138,8 @@ pub fn run_events(
     samples: &[u8],
     out: &mut [u8],
 ) -> Reach
-    requires { (0 < budget) × (mostOutput ≤ length out.old) }
-    ensures { Reached (progressOf budget (length out.old) (eventsOf fault body.now) (bridgeOf s) samples.now) (eventsOf fault body.now) samples.now out.old out.new result }
+    requires { (0 < budget) × (most_output ≤ length out.old) }
+    ensures { Reached (progress_of budget (length out.old) (events_of fault body.now) (bridge_of s) samples.now) (events_of fault body.now) samples.now out.old out.new result }
 {
     if (0 < body.len()) & !registers::in_range(s) {
         return got_to(s, 0, 0, 0, Outcome::Refused(Refusal::Ranges));

@@ -3,11 +3,11 @@ ghost use Rattle.std.specs.Prelude.{◌≡◌, cond, ◌+◌, ◌≤◌, ◌<◌
 ghost use Rattle.wire.specs.Action.{bytes_of};
 ghost use Rattle.wire.specs.Buffer.{Written};
 ghost use Rattle.packet.specs.Packet.{width};
-ghost use Rattle.signals.specs.Waveforms.{waveOf};
-ghost use Rattle.effects.specs.Replies.{replyBytes};
-ghost use Rattle.transcript.specs.Transcript.{unlessEmpty, last_of, refusalOf};
+ghost use Rattle.signals.specs.Waveforms.{wave_of};
+ghost use Rattle.effects.specs.Replies.{reply_bytes};
+ghost use Rattle.transcript.specs.Transcript.{unless_empty, last_of, refusal_of};
 ghost use Rattle.transcript.specs.Events.{Headed};
-ghost use Rattle.registers.specs.Registers.{isIdle};
+ghost use Rattle.registers.specs.Registers.{is_idle};
 
 use effects::Reply;
 use effects::sending::put_reply;
@@ -40,8 +40,8 @@ fn put_actions_head(out: &mut [u8], size: usize) -> usize
 // A waveform's actions as a record, none if there are none, at the front of a buffer: behind room for their header, which is put
 // there when they are counted. The caller shows that the size register is in range and that they fit.
 pub(crate) fn put_actions(out: &mut [u8], page: Page, wave: Waveform, samples: &[u8]) -> usize
-    requires { (page.size < width) × (4 + length (bytes_of (waveOf page wave samples.now 0).actions) ≤ length out.old) }
-    ensures { Written out.old 0 (unlessEmpty 0x0102 (bytes_of (waveOf page wave samples.now 0).actions)) out.new result }
+    requires { (page.size < width) × (4 + length (bytes_of (wave_of page wave samples.now 0).actions) ≤ length out.old) }
+    ensures { Written out.old 0 (unless_empty 0x0102 (bytes_of (wave_of page wave samples.now 0).actions)) out.new result }
 {
     let size = signals::write(&mut out[HEADER..], page, wave, samples, 0);
     put_actions_head(out, size)
@@ -50,8 +50,8 @@ pub(crate) fn put_actions(out: &mut [u8], page: Page, wave: Waveform, samples: &
 // A reply of so many bytes as a record, none if it is empty, at a place. The caller shows that it has so many, that the size
 // register is in range and that they fit there.
 pub(crate) fn put_replies(out: &mut [u8], at: usize, s: State, reply: Reply, size: usize) -> usize
-    requires { (s.page.size < width) × (size ≡ length (replyBytes s reply)) × (at + 4 + size ≤ length out.old) }
-    ensures { Written out.old at (unlessEmpty 0x0101 (replyBytes s reply)) out.new result }
+    requires { (s.page.size < width) × (size ≡ length (reply_bytes s reply)) × (at + 4 + size ≤ length out.old) }
+    ensures { Written out.old at (unless_empty 0x0101 (reply_bytes s reply)) out.new result }
 {
     if size == 0 {
         return at;
@@ -63,7 +63,7 @@ pub(crate) fn put_replies(out: &mut [u8], at: usize, s: State, reply: Reply, siz
 
 // 1 if something is waited for.
 fn waits(w: Wait) -> u8
-    ensures { result ≡ cond (isIdle w) 0 1 }
+    ensures { result ≡ cond (is_idle w) 0 1 }
 {
     if registers::is_idle(w) { 0 } else { 1 }
 }
@@ -80,7 +80,7 @@ pub fn put_last(out: &mut [u8], w: Wait) -> usize
 // The record of a refusal, at the front of a buffer in which the caller shows room for it.
 pub fn put_refusal(out: &mut [u8], why: Refusal, place: usize) -> usize
     requires { 10 ≤ length out.old }
-    ensures { Written out.old 0 (refusalOf why place) out.new result }
+    ensures { Written out.old 0 (refusal_of why place) out.new result }
 {
     let n = number(why) as u16;
     let low = (n % 256) as u8;

@@ -1,12 +1,12 @@
 -- Text collected in a lent buffer on its way out: the buffer, and how much of it is collected.
 use Rattle.std.specs.Prelude.{ℕ, ◌+◌, cond, List, [], ◌∷◌, length}
-use Rattle.wire.specs.Buffer.{overwrite, fitsIn}
+use Rattle.wire.specs.Buffer.{overwrite, fits_in}
 
 -- A ROW MORE stands after what is collected; where it does not fit, that and the row go out, and nothing is collected
 abbrev pub collect : List ℕ × ℕ → List ℕ → List ℕ × ℕ
-collect c row = cond (fitsIn (length c.0) c.1 (length row)) (overwrite c.0 c.1 row, c.1 + length row) (c.0, 0)
+collect c row = cond (fits_in (length c.0) c.1 (length row)) (overwrite c.0 c.1 row, c.1 + length row) (c.0, 0)
 
 -- rows, one after another
-abbrev pub collectAll : List ℕ × ℕ → List (List ℕ) → List ℕ × ℕ
-collectAll c [] = c
-collectAll c (row ∷ rows) = collectAll (collect c row) rows
+abbrev pub collect_all : List ℕ × ℕ → List (List ℕ) → List ℕ × ℕ
+collect_all c [] = c
+collect_all c (row ∷ rows) = collect_all (collect c row) rows

@@ -1,8 +1,8 @@
 // The value changes of a dump as text, which is collected in a lent buffer, so that an event is written by one call. What goes to
 // standard output no contract can say; each says what is collected then.
 ghost use Rattle.std.specs.Prelude.{◌≡◌, false, ◌<◌, length};
-ghost use Rattle.value_changes.specs.Collected.{collect, collectAll};
-ghost use Rattle.value_changes.specs.Rows.{Timed, levelRow, registerRow, bitRow, bitRows};
+ghost use Rattle.value_changes.specs.Collected.{collect, collect_all};
+ghost use Rattle.value_changes.specs.Rows.{Timed, level_row, register_row, bit_row, bit_rows};
 
 use libc::STDOUT_FILENO;
 
@@ -41,14 +41,14 @@ pub fn put_time(text: &mut [u8], used: usize, time: u64) -> usize
 
 // A line's level, `0`, `1` or `z`, with its identifier.
 pub fn put_level(text: &mut [u8], used: usize, level: u8, identifier: u8) -> usize
-    ensures { (text.new, result) ≡ collect (text.old, used) (levelRow level identifier) }
+    ensures { (text.new, result) ≡ collect (text.old, used) (level_row level identifier) }
 {
     put(text, used, &[level, identifier, b'\n'])
 }
 
 // A register's byte in binary digits, the high bit first, with its identifier.
 pub fn put_register(text: &mut [u8], used: usize, byte: u8, identifier: u8) -> usize
-    ensures { (text.new, result) ≡ collect (text.old, used) (registerRow byte identifier) }
+    ensures { (text.new, result) ≡ collect (text.old, used) (register_row byte identifier) }
 {
     let row = [
         b'b',
@@ -69,7 +69,7 @@ pub fn put_register(text: &mut [u8], used: usize, byte: u8, identifier: u8) -> u
 
 // A bit of a register if it changed, with the register's identifier and its number.
 fn put_bit(text: &mut [u8], used: usize, old: u8, new: u8, identifier: u8, number: u8) -> usize
-    ensures { (text.new, result) ≡ collectAll (text.old, used) (bitRow old new identifier number) }
+    ensures { (text.new, result) ≡ collect_all (text.old, used) (bit_row old new identifier number) }
 {
     if old % 2 == new % 2 {
         return used;
@@ -79,7 +79,7 @@ fn put_bit(text: &mut [u8], used: usize, old: u8, new: u8, identifier: u8, numbe
 
 // The bits of a register that changed, the low one first.
 pub fn put_bits(text: &mut [u8], used: usize, old: u8, new: u8, identifier: u8) -> usize
-    ensures { (text.new, result) ≡ collectAll (text.old, used) (bitRows 8 0x30 old new identifier) }
+    ensures { (text.new, result) ≡ collect_all (text.old, used) (bit_rows 8 0x30 old new identifier) }
 {
     let mut end = used;
     let mut before = old;

@@ -8,14 +8,14 @@ use Rattle.grammar.specs.declared.Verdict.{Verdict}
 use Rattle.grammar.specs.declared.Verdict.TheVariants as v
 
 -- the end of the line of a wrong place: its code by two hexadecimal digits in brackets
-abbrev pub codeEnd : ℕ → List ℕ
-codeEnd w = bytes " (" ++ last_digits 16 2 w ++ bytes ")\n"
+abbrev pub code_end : ℕ → List ℕ
+code_end w = bytes " (" ++ last_digits 16 2 w ++ bytes ")\n"
 
 -- a verdict's line; a place goes by its decimal digits, with no zeros in front, of which there are so many
-abbrev pub verdictLine : Verdict → ℕ → List ℕ
-verdictLine v.Whole n = bytes "whole\n"
-verdictLine v.Open n = bytes "open\n"
-verdictLine (v.Wrong k w) n = bytes "wrong at " ++ last_digits 10 n k ++ codeEnd w
+abbrev pub verdict_line : Verdict → ℕ → List ℕ
+verdict_line v.Whole n = bytes "whole\n"
+verdict_line v.Open n = bytes "open\n"
+verdict_line (v.Wrong k w) n = bytes "wrong at " ++ last_digits 10 n k ++ code_end w
 
 -- so many digits are a verdict's
 abbrev pub HasDigits : Verdict → ℕ → Type 0
@@ -27,5 +27,5 @@ HasDigits (v.Wrong k w) n = IsDigitCount 10 1 k n
 pub record LineWritten (v : Verdict) (o x : List ℕ) (next : ℕ) : Type 0 where
   pub places : ℕ
   pub fewest : HasDigits v places
-  pub wrote : Written o 0 (verdictLine v places) x next
+  pub wrote : Written o 0 (verdict_line v places) x next
   pub counts : IsPrefixLen next x

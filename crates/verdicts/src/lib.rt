@@ -1,7 +1,7 @@
 // The judge's verdicts in words.
 ghost use Rattle.std.specs.Prelude.{◌≤◌, length, ◌≡◌};
 ghost use Rattle.grammar.specs.declared.Verdict.TheVariants.{Wrong};
-ghost use Rattle.verdicts.specs.Lines.{codeEnd, LineWritten};
+ghost use Rattle.verdicts.specs.Lines.{code_end, LineWritten};
 
 use grammar::Verdict;
 
@@ -15,7 +15,7 @@ pub const ROOM: usize = 35;
 
 // The end of a wrong place's line: the code's two hex digits in brackets.
 fn code_end(code: u8) -> [u8; CODE]
-    ensures { result ≡ codeEnd code }
+    ensures { result ≡ code_end code }
 {
     let mut digits = [0u8; 16];
     io::hex(code as u64, 2, &mut digits);

@@ -1,7 +1,7 @@
 // The walk through a session, a step of the replay at a time.
 ghost use Rattle.std.specs.Prelude.{◌≡◌, ◌<◌, ◌≤◌, false, length};
 ghost use Rattle.session.specs.Runs.{left};
-ghost use Rattle.transcript.specs.Transcript.{mostOutput};
+ghost use Rattle.transcript.specs.Transcript.{most_output};
 
 use crate::events::{codes_of, say_head, say_left};
 use crate::output::{ACTIONS, Part, REPLIES, refusal_in, say_part};
@@ -154,7 +154,7 @@ fn show_step(
 
 // One step of the replay, shown. The caller shows room for it.
 fn step(color: bool, from: Walked, session: &[u8], out: &mut [u8]) -> Walked
-    requires { mostOutput ≤ length out.old }
+    requires { most_output ≤ length out.old }
     ensures { from.cursor.done ≡ false → left session.now result.cursor < left session.now from.cursor }
 {
     let c = from.cursor;

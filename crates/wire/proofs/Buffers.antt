@@ -11,101 +11,101 @@ use borrow.Author.Tests.{le-leb, lt-leb, leb-true}
 use lib.Dec.{leb}
 use lib.ListN.{get_or, length, take, drop, set, length-append, length-take, length-drop, drop_of_length-le}
 use lib.Seq.{drop-cons, length-sets, sets-eq, take_all, take-set-le, drop-set-lt, length-take-le, take-append_seam, drop-append_seam}
-use Rattle.wire.specs.Buffer.{overwrite, fitsIn, Written, Overwritten}
+use Rattle.wire.specs.Buffer.{overwrite, fits_in, Written, Overwritten}
 
-pub overwrite-length : (l : List ℕ) (at : ℕ) (xs : List ℕ) → length (overwrite l at xs) ≡ length l
+pub overwrite_length : (l : List ℕ) (at : ℕ) (xs : List ℕ) → length (overwrite l at xs) ≡ length l
 unfolding overwrite
-overwrite-length l at xs = length-sets l at xs
+overwrite_length l at xs = length-sets l at xs
 
-pub overwrite-right : (l : List ℕ) (at : ℕ) (xs : List ℕ) → Overwritten l at xs
+pub overwrite_right : (l : List ℕ) (at : ℕ) (xs : List ℕ) → Overwritten l at xs
 unfolding overwrite
-overwrite-right l at xs = record { size = overwrite-length l at xs; parts = sets-eq xs l at }
+overwrite_right l at xs = record { size = overwrite_length l at xs; parts = sets-eq xs l at }
 
 -- a row written over another of its length
-pub written-whole : (l xs : List ℕ) {r : List ℕ} {next : ℕ} → length l ≡ length xs → Written l 0 xs r next → r ≡ xs
-written-whole l xs e w =
-    w.bytes ∙ (overwrite-right l 0 xs).parts (omega arith) ∙ ap (λ (r : List ℕ). xs ++ r) (drop_of_length-le l {i = 0 + length xs} (omega arith)) ∙ append-nil xs
+pub written_whole : (l xs : List ℕ) {r : List ℕ} {next : ℕ} → length l ≡ length xs → Written l 0 xs r next → r ≡ xs
+written_whole l xs e w =
+    w.bytes ∙ (overwrite_right l 0 xs).parts (omega arith) ∙ ap (λ (r : List ℕ). xs ++ r) (drop_of_length-le l {i = 0 + length xs} (omega arith)) ∙ append-nil xs
 
 -- a mark past the end leaves room for nothing, not even for zero bytes
-pub past_the_end : (size mark need : ℕ) → size < mark → fitsIn size mark need ≡ false
+pub past_the_end : (size mark need : ℕ) → size < mark → fits_in size mark need ≡ false
 past_the_end size mark need h = lt-leb (mark + need) size (omega arith)
 
 -- the room after a mark is what the mark leaves of the size
-pub room-left : (size mark need : ℕ) → mark ≤ size → leb need (size - mark) ≡ fitsIn size mark need
-room-left size mark need h = go (dec_le need (size - mark))
+pub room_left : (size mark need : ℕ) → mark ≤ size → leb need (size - mark) ≡ fits_in size mark need
+room_left size mark need h = go (dec_le need (size - mark))
   where
     go : Dec (need ≤ size - mark) → leb need (size - mark) ≡ leb (mark + need) size
     go (yes k) = le-leb need (size - mark) k ∙ sym (le-leb (mark + need) size (omega arith))
     go (no k) = lt-leb need (size - mark) (omega arith) ∙ sym (lt-leb (mark + need) size (omega arith))
 
 -- nothing written changes nothing
-pub overwrite-none : (l : List ℕ) (at : ℕ) → overwrite l at [] ≡ l
+pub overwrite_none : (l : List ℕ) (at : ℕ) → overwrite l at [] ≡ l
 unfolding overwrite
-overwrite-none l at = refl
+overwrite_none l at = refl
 
 -- bytes before and beyond stay, whether or not xs fit
-pub overwrite-before : (l : List ℕ) (at n : ℕ) (xs : List ℕ) → n ≤ at → take n (overwrite l at xs) ≡ take n l
+pub overwrite_before : (l : List ℕ) (at n : ℕ) (xs : List ℕ) → n ≤ at → take n (overwrite l at xs) ≡ take n l
 unfolding overwrite
-overwrite-before l at n [] h = refl
-overwrite-before l at n (x ∷ xs) h = overwrite-before (set l at x) (suc at) n xs (omega arith) ∙ take-set-le n l at x h
+overwrite_before l at n [] h = refl
+overwrite_before l at n (x ∷ xs) h = overwrite_before (set l at x) (suc at) n xs (omega arith) ∙ take-set-le n l at x h
 
-pub overwrite-beyond : (l : List ℕ) (at n : ℕ) (xs : List ℕ) → at + length xs ≤ n → drop n (overwrite l at xs) ≡ drop n l
+pub overwrite_beyond : (l : List ℕ) (at n : ℕ) (xs : List ℕ) → at + length xs ≤ n → drop n (overwrite l at xs) ≡ drop n l
 unfolding overwrite
-overwrite-beyond l at n [] h = refl
-overwrite-beyond l at n (x ∷ xs) h = overwrite-beyond (set l at x) (suc at) n xs (omega arith) ∙ drop-set-lt n l at x (omega arith)
+overwrite_beyond l at n [] h = refl
+overwrite_beyond l at n (x ∷ xs) h = overwrite_beyond (set l at x) (suc at) n xs (omega arith) ∙ drop-set-lt n l at x (omega arith)
 
 -- WRITING TWICE IN A ROW is writing the joined bytes
-pub overwrite-append : (l : List ℕ) (at : ℕ) (xs ys : List ℕ) → overwrite (overwrite l at xs) (at + length xs) ys ≡ overwrite l at (xs ++ ys)
+pub overwrite_append : (l : List ℕ) (at : ℕ) (xs ys : List ℕ) → overwrite (overwrite l at xs) (at + length xs) ys ≡ overwrite l at (xs ++ ys)
 unfolding overwrite
-overwrite-append l at [] ys = rw add-zero
-overwrite-append l at (x ∷ xs) ys = rw (add-suc, ← suc-add) (overwrite-append (set l at x) (suc at) xs ys)
+overwrite_append l at [] ys = rw add-zero
+overwrite_append l at (x ∷ xs) ys = rw (add-suc, ← suc-add) (overwrite_append (set l at x) (suc at) xs ys)
 
 pub written_none : (l : List ℕ) (at : ℕ) → Written l at [] l at
-written_none l at = record { bytes = sym (overwrite-none l at); after = sym (add-zero at) }
+written_none l at = record { bytes = sym (overwrite_none l at); after = sym (add-zero at) }
 
-pub written-append : (l : List ℕ) (at : ℕ) (xs ys : List ℕ) {m n : List ℕ} {at' at'' : ℕ} → Written l at xs m at' → Written m at' ys n at'' → Written l at (xs ++ ys) n at''
-written-append l at xs ys {m} v w = record {
-  bytes = w.bytes ∙ ap (λ (k : ℕ). overwrite m k ys) v.after ∙ ap (λ (r : List ℕ). overwrite r (at + length xs) ys) v.bytes ∙ overwrite-append l at xs ys;
+pub written_append : (l : List ℕ) (at : ℕ) (xs ys : List ℕ) {m n : List ℕ} {at' at'' : ℕ} → Written l at xs m at' → Written m at' ys n at'' → Written l at (xs ++ ys) n at''
+written_append l at xs ys {m} v w = record {
+  bytes = w.bytes ∙ ap (λ (k : ℕ). overwrite m k ys) v.after ∙ ap (λ (r : List ℕ). overwrite r (at + length xs) ys) v.bytes ∙ overwrite_append l at xs ys;
   after = w.after ∙ ap (λ (k : ℕ). k + length ys) v.after ∙ add_assoc at (length xs) (length ys) ∙ ap (λ (k : ℕ). at + k) (sym (length-append xs ys));
 }
 
 -- the bytes up to the end of what is written
-pub overwrite-through : (l : List ℕ) (at : ℕ) (xs : List ℕ) → at + length xs ≤ length l → take (at + length xs) (overwrite l at xs) ≡ take at l ++ xs
-overwrite-through l at xs h =
+pub overwrite_through : (l : List ℕ) (at : ℕ) (xs : List ℕ) → at + length xs ≤ length l → take (at + length xs) (overwrite l at xs) ≡ take at l ++ xs
+overwrite_through l at xs h =
     let n : at + length xs ≡ length (take at l ++ xs) = omega (arith, length-append (take at l) xs, length-take-le at l (omega arith)) in
-    (λ i. take (n i) ((overwrite-right l at xs).parts h i)) ∙ take-append_seam (take at l ++ xs) (drop (at + length xs) l)
+    (λ i. take (n i) ((overwrite_right l at xs).parts h i)) ∙ take-append_seam (take at l ++ xs) (drop (at + length xs) l)
 
 -- what is written last in front of other bytes joins them
-pub overwrite-front : (l : List ℕ) (at : ℕ) (xs ys : List ℕ) → at + length xs + length ys ≤ length l → overwrite (overwrite l (at + length xs) ys) at xs ≡ overwrite l at (xs ++ ys)
-overwrite-front l at xs ys h =
+pub overwrite_front : (l : List ℕ) (at : ℕ) (xs ys : List ℕ) → at + length xs + length ys ≤ length l → overwrite (overwrite l (at + length xs) ys) at xs ≡ overwrite l at (xs ++ ys)
+overwrite_front l at xs ys h =
     let p = at + length xs in
     let m = overwrite l p ys in
     let b = drop (p + length ys) l in
-    let e : m ≡ take p l ++ (ys ++ b) = (overwrite-right l p ys).parts h ∙ append_assoc (take p l) ys b in
+    let e : m ≡ take p l ++ (ys ++ b) = (overwrite_right l p ys).parts h ∙ append_assoc (take p l) ys b in
     let f : length (take p l) ≡ p = length-take-le p l (omega arith) in
     let d : drop p m ≡ ys ++ b = ap (drop p) e ∙ ap (λ (n : ℕ). drop n (take p l ++ (ys ++ b))) (sym f) ∙ drop-append_seam (take p l) (ys ++ b) in
     let n : p + length ys ≡ at + length (xs ++ ys) = omega (arith, length-append xs ys) in
-    (overwrite-right m at xs).parts (omega (arith, overwrite-length l p ys))
-    ∙ (λ i. overwrite-before l p at ys (omega arith) i ++ xs ++ d i)
+    (overwrite_right m at xs).parts (omega (arith, overwrite_length l p ys))
+    ∙ (λ i. overwrite_before l p at ys (omega arith) i ++ xs ++ d i)
     ∙ sym (append_assoc (take at l ++ xs) ys b)
     ∙ (λ i. append_assoc (take at l) xs ys i ++ drop (n i) l)
-    ∙ sym ((overwrite-right l at (xs ++ ys)).parts (omega (arith, n)))
+    ∙ sym ((overwrite_right l at (xs ++ ys)).parts (omega (arith, n)))
 
 -- LENDING A PART from a place onward is writing at that place
-overwrite-cons : (x : ℕ) (l : List ℕ) (at : ℕ) (xs : List ℕ) → overwrite (x ∷ l) (suc at) xs ≡ x ∷ overwrite l at xs
+overwrite_cons : (x : ℕ) (l : List ℕ) (at : ℕ) (xs : List ℕ) → overwrite (x ∷ l) (suc at) xs ≡ x ∷ overwrite l at xs
 unfolding overwrite
-overwrite-cons x l at [] = refl
-overwrite-cons x l at (y ∷ xs) = overwrite-cons x (set l at y) (suc at) xs
+overwrite_cons x l at [] = refl
+overwrite_cons x l at (y ∷ xs) = overwrite_cons x (set l at y) (suc at) xs
 
-overwrite-nil : (at : ℕ) (xs : List ℕ) → overwrite [] at xs ≡ []
+overwrite_nil : (at : ℕ) (xs : List ℕ) → overwrite [] at xs ≡ []
 unfolding overwrite
-overwrite-nil at [] = refl
-overwrite-nil at (x ∷ xs) = overwrite-nil (suc at) xs
+overwrite_nil at [] = refl
+overwrite_nil at (x ∷ xs) = overwrite_nil (suc at) xs
 
-pub overwrite-part : (l : List ℕ) (mark at : ℕ) (xs : List ℕ) → take mark l ++ overwrite (drop mark l) at xs ≡ overwrite l (mark + at) xs
-overwrite-part l zero at xs = ap (λ (k : ℕ). overwrite l k xs) (sym (zero-add at))
-overwrite-part [] (suc mark) at xs = rw (overwrite-nil, overwrite-nil)
-overwrite-part (x ∷ l) (suc mark) at xs = rw (suc-add, overwrite-cons) (ap (λ (r : List ℕ). x ∷ r) (overwrite-part l mark at xs))
+pub overwrite_part : (l : List ℕ) (mark at : ℕ) (xs : List ℕ) → take mark l ++ overwrite (drop mark l) at xs ≡ overwrite l (mark + at) xs
+overwrite_part l zero at xs = ap (λ (k : ℕ). overwrite l k xs) (sym (zero-add at))
+overwrite_part [] (suc mark) at xs = rw (overwrite_nil, overwrite_nil)
+overwrite_part (x ∷ l) (suc mark) at xs = rw (suc-add, overwrite_cons) (ap (λ (r : List ℕ). x ∷ r) (overwrite_part l mark at xs))
 
 -- `&mut l[mark..]` comes back with xs written at a place of it
 pub lent : (l : List ℕ) (mark at : ℕ) (ys xs : List ℕ) → ys ≡ overwrite (take (length l - mark) (drop mark l)) at xs
@@ -113,7 +113,7 @@ pub lent : (l : List ℕ) (mark at : ℕ) (ys xs : List ℕ) → ys ≡ overwrit
 lent l mark at ys xs e =
     ap (λ (r : List ℕ). take mark l ++ (ys ++ r)) (drop_of_length-le (drop mark l) (le_of_eq (length-drop mark l)))
     ∙ ap (λ (r : List ℕ). take mark l ++ r) (append-nil ys ∙ e ∙ ap (λ (r : List ℕ). overwrite r at xs) (take_all (length l - mark) (drop mark l) (le_of_eq (length-drop mark l))))
-    ∙ overwrite-part l mark at xs
+    ∙ overwrite_part l mark at xs
 
 -- .. or at its start
 pub written_after : (l : List ℕ) (mark : ℕ) {ys xs zs : List ℕ} {next : ℕ} → Written (take (length l - mark) (drop mark l)) 0 xs ys next → xs ≡ zs
@@ -133,22 +133,22 @@ pub room : (m : List ℕ) (at need : ℕ) → at + need ≤ length m → need �
 room m at need h = simp (length-take, length-drop) (omega arith)
 
 -- what fits after a mark fits in the part from there on
-pub part-start : (size mark need : ℕ) → fitsIn size mark need ≡ true → mark ≤ size
-part-start size mark need h = omega (arith, leb-true (mark + need) size h)
+pub part_start : (size mark need : ℕ) → fits_in size mark need ≡ true → mark ≤ size
+part_start size mark need h = omega (arith, leb-true (mark + need) size h)
 
-pub part_room : (mark need : ℕ) (l : List ℕ) → fitsIn (length l) mark need ≡ true → need ≤ length (take (length l - mark) (drop mark l))
+pub part_room : (mark need : ℕ) (l : List ℕ) → fits_in (length l) mark need ≡ true → need ≤ length (take (length l - mark) (drop mark l))
 part_room mark need l h = simp (length-take, length-drop) (omega (arith, leb-true (mark + need) (length l) h))
 
 -- one byte of a row: a turn of a loop that writes it
-pub put-turn : (l : List ℕ) (at : ℕ) (xs : List ℕ) (i : ℕ) → i < length xs → overwrite (set l (at + i) (get_or xs i 0)) (at + (i + 1)) (drop (i + 1) xs) ≡ overwrite l (at + i) (drop i xs)
+pub put_turn : (l : List ℕ) (at : ℕ) (xs : List ℕ) (i : ℕ) → i < length xs → overwrite (set l (at + i) (get_or xs i 0)) (at + (i + 1)) (drop (i + 1) xs) ≡ overwrite l (at + i) (drop i xs)
 unfolding overwrite
-put-turn l at xs i h =
+put_turn l at xs i h =
     let e : at + (i + 1) ≡ suc (at + i) = omega arith in
     rw (e, add-one, drop-cons xs i 0 h)
 
 -- a loop that has written every byte of a row
-pub put-done : (l : List ℕ) (at : ℕ) (xs m : List ℕ) (i : ℕ) → i ≡ length xs → overwrite m (at + i) (drop i xs) ≡ overwrite l (at + 0) xs → Written l at xs m (at + i)
-put-done l at xs m i e q = record {
-  bytes = sym (overwrite-none m (at + i)) ∙ ap (overwrite m (at + i)) (sym (drop_of_length-le xs {i = i} (omega arith))) ∙ q ∙ ap (λ (k : ℕ). overwrite l k xs) (add-zero at);
+pub put_done : (l : List ℕ) (at : ℕ) (xs m : List ℕ) (i : ℕ) → i ≡ length xs → overwrite m (at + i) (drop i xs) ≡ overwrite l (at + 0) xs → Written l at xs m (at + i)
+put_done l at xs m i e q = record {
+  bytes = sym (overwrite_none m (at + i)) ∙ ap (overwrite m (at + i)) (sym (drop_of_length-le xs {i = i} (omega arith))) ∙ q ∙ ap (λ (k : ℕ). overwrite l k xs) (add-zero at);
   after = ap (λ (k : ℕ). at + k) e;
 }

@@ -5,37 +5,37 @@ use Prim.Native.Nat.{ℕ, zero, suc, ◌+◌, ◌<◌}
 use native.Mathlib.Nat.{add-zero}
 use native.Mathlib.Omega.{arith}
 use Rattle.wire.specs.Action.{Action}
-use Rattle.wire.specs.Sample.{byte_at, levelOf, samplings, SameFrom}
+use Rattle.wire.specs.Sample.{byte_at, level_of, samplings, SameFrom}
 
-pub level-bit : (s : ℕ) → levelOf s < 2
-unfolding levelOf
-level-bit zero = omega arith
-level-bit (suc s) = omega arith
+pub level_bit : (s : ℕ) → level_of s < 2
+unfolding level_of
+level_bit zero = omega arith
+level_bit (suc s) = omega arith
 
-pub level-low : (s : ℕ) → s ≡ 0 → 0 ≡ levelOf s
-unfolding levelOf
-level-low zero e = refl
-level-low (suc s) e = absurd (omega arith)
+pub level_low : (s : ℕ) → s ≡ 0 → 0 ≡ level_of s
+unfolding level_of
+level_low zero e = refl
+level_low (suc s) e = absurd (omega arith)
 
-pub level-high : (s : ℕ) → (s ≡ 0 → ⊥) → 1 ≡ levelOf s
-unfolding levelOf
-level-high zero n = absurd (n refl)
-level-high (suc s) n = refl
+pub level_high : (s : ℕ) → (s ≡ 0 → ⊥) → 1 ≡ level_of s
+unfolding level_of
+level_high zero n = absurd (n refl)
+level_high (suc s) n = refl
 
 -- SAMPLES TAKEN
 
-pub samplings-append : (as' bs : List Action) → samplings (as' ++ bs) ≡ samplings as' + samplings bs
+pub samplings_append : (as' bs : List Action) → samplings (as' ++ bs) ≡ samplings as' + samplings bs
 unfolding samplings
-samplings-append [] bs = omega arith
-samplings-append (a ∷ as') bs = omega (arith, samplings-append as' bs)
+samplings_append [] bs = omega arith
+samplings_append (a ∷ as') bs = omega (arith, samplings_append as' bs)
 
 -- THE SAME SAMPLES
 
-pub first-same : (n : ℕ) (ss us : List ℕ) (m k : ℕ) → SameFrom (suc n) ss m us k → byte_at ss m ≡ byte_at us k
-first-same n ss us m k h = ap (byte_at ss) (sym (add-zero m)) ∙ h 0 (omega arith) ∙ ap (byte_at us) (add-zero k)
+pub first_same : (n : ℕ) (ss us : List ℕ) (m k : ℕ) → SameFrom (suc n) ss m us k → byte_at ss m ≡ byte_at us k
+first_same n ss us m k h = ap (byte_at ss) (sym (add-zero m)) ∙ h 0 (omega arith) ∙ ap (byte_at us) (add-zero k)
 
-pub rest-same : (n : ℕ) (ss us : List ℕ) (m k : ℕ) → SameFrom (suc n) ss m us k → SameFrom n ss (m + 1) us (k + 1)
-rest-same n ss us m k h i l =
+pub rest_same : (n : ℕ) (ss us : List ℕ) (m k : ℕ) → SameFrom (suc n) ss m us k → SameFrom n ss (m + 1) us (k + 1)
+rest_same n ss us m k h i l =
     let p : m + 1 + i ≡ m + suc i = omega arith in
     let q : k + suc i ≡ k + 1 + i = omega arith in
     ap (byte_at ss) p ∙ h (suc i) (omega arith) ∙ ap (byte_at us) q

@@ -6,32 +6,32 @@ use Rattle.std.specs.Prelude.{ℕ, ◌/◌, ◌%◌, List, [], ◌∷◌, ◌++�
 abbrev pub release : ℕ
 release = 0
 
-abbrev pub driveLow : ℕ
-driveLow = 1
+abbrev pub drive_low : ℕ
+drive_low = 1
 
-abbrev pub driveHigh : ℕ
-driveHigh = 2
+abbrev pub drive_high : ℕ
+drive_high = 2
 
-abbrev pub sampleLine : ℕ
-sampleLine = 3
+abbrev pub sample_line : ℕ
+sample_line = 3
 
-abbrev pub waitMicroseconds : ℕ
-waitMicroseconds = 4
+abbrev pub wait_microseconds : ℕ
+wait_microseconds = 4
 
-abbrev pub setDirection : ℕ
-setDirection = 5
+abbrev pub set_direction : ℕ
+set_direction = 5
 
-abbrev pub setLatch : ℕ
-setLatch = 6
+abbrev pub set_latch : ℕ
+set_latch = 6
 
-abbrev pub samplePort : ℕ
-samplePort = 7
+abbrev pub sample_port : ℕ
+sample_port = 7
 
-abbrev pub waitMilliseconds : ℕ
-waitMilliseconds = 8
+abbrev pub wait_milliseconds : ℕ
+wait_milliseconds = 8
 
-abbrev pub waitCycles : ℕ
-waitCycles = 9
+abbrev pub wait_cycles : ℕ
+wait_cycles = 9
 
 -- THE LINES, in 01's order; an action that has no line has 0 in its place
 abbrev pub scl : ℕ
@@ -61,17 +61,17 @@ dq = 7
 abbrev pub pb7 : ℕ
 pb7 = 8
 
-abbrev pub portB : ℕ
-portB = 16
+abbrev pub port_b : ℕ
+port_b = 16
 
-abbrev pub portC : ℕ
-portC = 17
+abbrev pub port_c : ℕ
+port_c = 17
 
-abbrev pub portD : ℕ
-portD = 18
+abbrev pub port_d : ℕ
+port_d = 18
 
-abbrev pub noLine : ℕ
-noLine = 0
+abbrev pub no_line : ℕ
+no_line = 0
 
 -- 01's term: action
 pub record Action : Type 0 where
@@ -83,10 +83,10 @@ abbrev pub action : ℕ → ℕ → ℕ → Action
 action v l n = record { verb = v; line = l; value = n }
 
 -- its four bytes
-abbrev pub actionBytes : Action → List ℕ
-actionBytes a = a.verb ∷ a.line ∷ a.value % 256 ∷ a.value / 256 % 256 ∷ []
+abbrev pub action_bytes : Action → List ℕ
+action_bytes a = a.verb ∷ a.line ∷ a.value % 256 ∷ a.value / 256 % 256 ∷ []
 
 -- the bytes of actions in a row
 abbrev pub bytes_of : List Action → List ℕ
 bytes_of [] = []
-bytes_of (a ∷ as') = actionBytes a ++ bytes_of as'
+bytes_of (a ∷ as') = action_bytes a ++ bytes_of as'

@@ -1,8 +1,10 @@
 // The bottom layer: actions on the lines, lent buffers that they are written to, and lent samples.
+#![tactic(auto)]
+
 ghost use Rattle.std.specs.Prelude.{◌≡◌, ◌+◌, ◌≤◌, length};
-ghost use Rattle.wire.specs.Action.{action, actionBytes};
-ghost use Rattle.wire.specs.Buffer.{Written, fitsIn};
-ghost use Rattle.wire.specs.Sample.{byte_at, levelAt};
+ghost use Rattle.wire.specs.Action.{action, action_bytes};
+ghost use Rattle.wire.specs.Buffer.{Written, fits_in};
+ghost use Rattle.wire.specs.Sample.{byte_at, level_at};
 
 // An action's verb.
 pub const VERB_RELEASE: u8 = 0;
@@ -73,7 +75,7 @@ pub fn put_bytes(out: &mut [u8], at: usize, row: &[u8]) -> usize
 // bytes fit there.
 pub fn put_action(out: &mut [u8], verb: u8, line: u8, value: u16) -> usize
     requires { 4 ≤ length out.old }
-    ensures { Written out.old 0 (actionBytes (action verb line value)) out.new result }
+    ensures { Written out.old 0 (action_bytes (action verb line value)) out.new result }
 {
     let low = (value % 256) as u8;
     let high = (value / 256 % 256) as u8;
@@ -82,7 +84,7 @@ pub fn put_action(out: &mut [u8], verb: u8, line: u8, value: u16) -> usize
 
 // Whether so many bytes fit after a mark; a mark past the end leaves room for nothing, not even for zero bytes.
 pub fn fits(size: usize, mark: usize, need: usize) -> bool
-    ensures { result ≡ fitsIn size mark need }
+    ensures { result ≡ fits_in size mark need }
 {
     if size < mark {
         return false;
@@ -102,7 +104,7 @@ pub fn byte_at(bytes: &[u8], at: usize) -> u8
 
 // The level of a line by the sample at a place: 0 for low, 1 for high; low past the end.
 pub fn level_at(samples: &[u8], at: usize) -> u8
-    ensures { result ≡ levelAt samples.now at }
+    ensures { result ≡ level_at samples.now at }
 {
     if byte_at(samples, at) == 0 {
         return 0;

@@ -11,8 +11,8 @@ invariant-loop file at₀ t5 at = at ≤ length file
 abbrev decreases-loop : tie.decreases-loop
 decreases-loop file at₀ t5 at = length file - at
 
-pub show-all-spec : {M : Type 1} → statement M
-show-all-spec =
+pub show_all_spec : {M : Type 1} → statement M
+show_all_spec =
     tie.close
     (tie.spec
     invariant-loop

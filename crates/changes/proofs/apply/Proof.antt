@@ -3,8 +3,8 @@ use borrow.Author.Rules.{rules}
 use Rattle.changes.proofs.apply.Statement.{statement}
 use Rattle.changes.proofs.apply.Tie as tie
 
-pub apply-spec : {M : Type 1} → statement M
-apply-spec =
+pub apply_spec : {M : Type 1} → statement M
+apply_spec =
     tie.close
     (tie.spec
     (λ c. search rules)

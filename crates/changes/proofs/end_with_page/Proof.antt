@@ -5,8 +5,8 @@ use Rattle.registers.specs.Registers.{ended}
 use Rattle.changes.proofs.end_with_page.Statement.{statement}
 use Rattle.changes.proofs.end_with_page.Tie as tie
 
-pub end-with-page-spec : {M : Type 1} → statement M
-end-with-page-spec =
+pub end_with_page_spec : {M : Type 1} → statement M
+end_with_page_spec =
     tie.close
     (tie.spec
     (λ c κs. search rules)

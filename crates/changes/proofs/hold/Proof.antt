@@ -3,8 +3,8 @@ use borrow.Author.Rules.{rules}
 use Rattle.changes.proofs.hold.Statement.{statement}
 use Rattle.changes.proofs.hold.Tie as tie
 
-pub hold-spec : {M : Type 1} → statement M
-hold-spec =
+pub hold_spec : {M : Type 1} → statement M
+hold_spec =
     tie.close
     (tie.spec
     (λ c κs. search rules)

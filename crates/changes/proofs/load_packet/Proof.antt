@@ -3,8 +3,8 @@ use borrow.Author.Rules.{rules}
 use Rattle.changes.proofs.load_packet.Statement.{statement}
 use Rattle.changes.proofs.load_packet.Tie as tie
 
-pub load-packet-spec : {M : Type 1} → statement M
-load-packet-spec =
+pub load_packet_spec : {M : Type 1} → statement M
+load_packet_spec =
     tie.close
     (tie.spec
     (λ c κs. search rules)

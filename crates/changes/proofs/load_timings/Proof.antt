@@ -3,8 +3,8 @@ use borrow.Author.Rules.{rules}
 use Rattle.changes.proofs.load_timings.Statement.{statement}
 use Rattle.changes.proofs.load_timings.Tie as tie
 
-pub load-timings-spec : {M : Type 1} → statement M
-load-timings-spec =
+pub load_timings_spec : {M : Type 1} → statement M
+load_timings_spec =
     tie.close
     (tie.spec
     (λ c κs. search rules)

@@ -3,8 +3,8 @@ use borrow.Author.Rules.{rules}
 use Rattle.changes.proofs.reset.Statement.{statement}
 use Rattle.changes.proofs.reset.Tie as tie
 
-pub reset-spec : {M : Type 1} → statement M
-reset-spec =
+pub reset_spec : {M : Type 1} → statement M
+reset_spec =
     tie.close
     (tie.spec
     (λ c κs. search rules)

@@ -3,8 +3,8 @@ use borrow.Author.Rules.{rules}
 use Rattle.decisions.proofs.decision_of.Statement.{statement}
 use Rattle.decisions.proofs.decision_of.Tie as tie
 
-pub decision-of-spec : {M : Type 1} → statement M
-decision-of-spec =
+pub decision_of_spec : {M : Type 1} → statement M
+decision_of_spec =
     tie.close
     (tie.spec
     (λ c. search rules)

@@ -3,8 +3,8 @@ use borrow.Author.Rules.{rules}
 use Rattle.decisions.proofs.drop_after.Statement.{statement}
 use Rattle.decisions.proofs.drop_after.Tie as tie
 
-pub drop-after-spec : {M : Type 1} → statement M
-drop-after-spec =
+pub drop_after_spec : {M : Type 1} → statement M
+drop_after_spec =
     tie.close
     (tie.spec
     (λ c. search rules)

@@ -6,8 +6,8 @@ use lib.ListN.{length}
 use Rattle.drive.proofs.drive.Statement.{statement}
 use Rattle.drive.proofs.drive.Tie as tie
 
-pub drive-spec : {M : Type 1} → statement M
-drive-spec =
+pub drive_spec : {M : Type 1} → statement M
+drive_spec =
     tie.close
     (tie.spec
     (λ input b₀ i₀ b i. i ≤ length input)

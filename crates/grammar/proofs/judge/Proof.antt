@@ -6,7 +6,7 @@ use Prim.Native.Nat.{◌≤◌, ◌-◌}
 use native.Mathlib.Omega.{arith}
 use lib.ListN.{length}
 use Rattle.grammar.specs.Scanner.{between}
-use Rattle.grammar.proofs.Scans.{ReadTo, standing, turn-wrong, turn-extension, turn-open, turn-item, turn_end}
+use Rattle.grammar.proofs.Scans.{ReadTo, standing, turn_wrong, turn_extension, turn_open, turn_item, turn_end}
 use Rattle.grammar.proofs.judge.Statement.{statement}
 use Rattle.grammar.proofs.judge.Tie as tie
 
@@ -16,8 +16,8 @@ invariant-loop bytes at₀ extended₀ i₀ at extended i = (i ≤ length bytes)
 abbrev decreases-loop : tie.decreases-loop
 decreases-loop bytes at₀ extended₀ i₀ at extended i = length bytes - i
 
-pub judge-spec : {M : Type 1} → statement M
-judge-spec =
+pub judge_spec : {M : Type 1} → statement M
+judge_spec =
     tie.close
     (tie.spec
     invariant-loop
@@ -30,14 +30,14 @@ judge-spec =
     let l = c.before.before in
     let t = l.before.before in
     let s = t.before.loop in
-    turn-wrong t.before.before.before.args.bytes.now _ s.at _ s.extended s.i t.loop-test.true refl s.invariant.1 (sym l.is-legal.ensures ∙ not-true _ c.before.if1.true) _ c.code-for.ensures)
+    turn_wrong t.before.before.before.args.bytes.now _ s.at _ s.extended s.i t.loop-test.true refl s.invariant.1 (sym l.is-legal.ensures ∙ not-true _ c.before.if1.true) _ c.code-for.ensures)
     (λ c. search rules)
     (λ c. search rules)
     (λ c.
     let t = c.before.before.before.before in
     let s = t.before.loop in (
       search rules,
-      turn-extension t.before.before.before.args.bytes.now _ s.at _ s.extended s.i t.loop-test.true refl s.invariant.1 c.if2.true,
+      turn_extension t.before.before.before.args.bytes.now _ s.at _ s.extended s.i t.loop-test.true refl s.invariant.1 c.if2.true,
     ))
     (λ c κs. search rules)
     (λ c. search rules)
@@ -48,7 +48,7 @@ judge-spec =
     let l = x.before.before in
     let t = l.before.before in
     let s = t.before.loop in
-    turn-open t.before.before.before.args.bytes.now _ s.at _ s.extended s.i t.loop-test.true refl s.invariant.1 _ (sym l.is-legal.ensures ∙ not-false _ x.before.if1.false) x.if2.false n.operands_of.ensures (omega arith))
+    turn_open t.before.before.before.args.bytes.now _ s.at _ s.extended s.i t.loop-test.true refl s.invariant.1 _ (sym l.is-legal.ensures ∙ not-false _ x.before.if1.false) x.if2.false n.operands_of.ensures (omega arith))
     (λ c κs. search rules)
     (λ c. search rules)
     (λ c. search rules)
@@ -64,7 +64,7 @@ judge-spec =
     let t = l.before.before in
     let s = t.before.loop in (
       search rules,
-      turn-item t.before.before.before.args.bytes.now _ s.at _ s.extended s.i t.loop-test.true refl s.invariant.1 _ _ _ (sym l.is-legal.ensures ∙ not-false _ x.before.if1.false) x.if2.false n.operands_of.ensures e.change-of.ensures (omega arith) c.context-after.ensures,
+      turn_item t.before.before.before.args.bytes.now _ s.at _ s.extended s.i t.loop-test.true refl s.invariant.1 _ _ _ (sym l.is-legal.ensures ∙ not-false _ x.before.if1.false) x.if2.false n.operands_of.ensures e.change-of.ensures (omega arith) c.context-after.ensures,
     ))
     (λ c. let m = c.before.before in turn_end m.before.before.args.bytes.now _ m.loop.at m.loop.extended _ m.loop.i (search rules) c.if4.true m.loop.invariant.1)
     (λ c. let m = c.before.before in turn_end m.before.before.args.bytes.now _ m.loop.at m.loop.extended _ m.loop.i (search rules) c.if4.false m.loop.invariant.1))

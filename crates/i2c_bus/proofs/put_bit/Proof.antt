@@ -3,8 +3,8 @@ use borrow.Author.Rules.{rules}
 use Rattle.i2c_bus.proofs.put_bit.Statement.{statement}
 use Rattle.i2c_bus.proofs.put_bit.Tie as tie
 
-pub put-bit-spec : {M : Type 1} → statement M
-put-bit-spec =
+pub put_bit_spec : {M : Type 1} → statement M
+put_bit_spec =
     tie.close
     (tie.spec
     (λ c κs. search rules)

@@ -3,8 +3,8 @@ use borrow.Author.Rules.{rules}
 use Rattle.input.proofs.read_named.Statement.{statement}
 use Rattle.input.proofs.read_named.Tie as tie
 
-pub read-named-spec : {M : Type 1} → statement M
-read-named-spec =
+pub read_named_spec : {M : Type 1} → statement M
+read_named_spec =
     tie.close
     (tie.spec
     (λ c κs. search rules)

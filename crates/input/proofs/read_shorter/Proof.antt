@@ -3,8 +3,8 @@ use borrow.Author.Rules.{rules}
 use Rattle.input.proofs.read_shorter.Statement.{statement}
 use Rattle.input.proofs.read_shorter.Tie as tie
 
-pub read-shorter-spec : {M : Type 1} → statement M
-read-shorter-spec =
+pub read_shorter_spec : {M : Type 1} → statement M
+read_shorter_spec =
     tie.close
     (tie.spec
     (λ c κs. search rules)

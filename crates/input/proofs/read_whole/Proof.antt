@@ -14,8 +14,8 @@ invariant-loop fd buf₀ n₀ buf n = (n ≤ length buf) × (length buf ≡ leng
 abbrev decreases-loop : tie.decreases-loop
 decreases-loop fd buf₀ n₀ buf n = length buf - n
 
-pub read-whole-spec : {M : Type 1} → statement M
-read-whole-spec =
+pub read_whole_spec : {M : Type 1} → statement M
+read_whole_spec =
     tie.close
     (tie.spec
     invariant-loop

@@ -3,8 +3,8 @@ use borrow.Author.Tests.{eq-eqb, ne_eqb}
 use Rattle.lines.proofs.verb_for.Statement.{statement}
 use Rattle.lines.proofs.verb_for.Tie as tie
 
-pub verb-for-spec : {M : Type 1} → statement M
-verb-for-spec =
+pub verb_for_spec : {M : Type 1} → statement M
+verb_for_spec =
     tie.close
     (tie.spec
     (λ c. rw (eq-eqb _ _ c.if1.true))

@@ -14,5 +14,5 @@ returns-2 : tie.Need-returns-2
 unfolding code_at
 returns-2 c = refl
 
-pub code-spec : {M : Type 1} → statement M
-code-spec = tie.close (tie.spec returns (λ c. search rules) returns-2)
+pub code_spec : {M : Type 1} → statement M
+code_spec = tie.close (tie.spec returns (λ c. search rules) returns-2)

@@ -5,8 +5,8 @@ use Rattle.one_wire_bus.proofs.Slots.{few}
 use Rattle.one_wire_bus.proofs.group_waits.Statement.{statement}
 use Rattle.one_wire_bus.proofs.group_waits.Tie as tie
 
-pub group-waits-spec : {M : Type 1} → statement M
-group-waits-spec =
+pub group_waits_spec : {M : Type 1} → statement M
+group_waits_spec =
     tie.close
     (tie.spec
     (λ c κs. search rules)

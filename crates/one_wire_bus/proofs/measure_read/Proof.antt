@@ -1,12 +1,12 @@
 -- Eight slots are so many actions.
 use borrow.Author.Rules.{rules}
-use Rattle.lines.specs.Lines.{forEach}
+use Rattle.lines.specs.Lines.{for_each}
 use Rattle.one_wire_bus.proofs.measure_read.Statement.{statement}
 use Rattle.one_wire_bus.proofs.measure_read.Tie as tie
 
-pub measure-read-spec : {M : Type 1} → statement M
-unfolding forEach
-measure-read-spec =
+pub measure_read_spec : {M : Type 1} → statement M
+unfolding for_each
+measure_read_spec =
     tie.close
     (tie.spec
     (λ c κs. search rules)

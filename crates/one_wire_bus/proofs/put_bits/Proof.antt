@@ -5,15 +5,15 @@ use Prim.Native.Nat.{ℕ, ◌-◌, ◌≤◌}
 use native.Mathlib.Omega.{arith}
 use lib.ListN.{length, take}
 use Rattle.wire.specs.Action.{Action, release}
-use Rattle.one_wire_bus.specs.OneWire.{writeSlot, low_first}
+use Rattle.one_wire_bus.specs.OneWire.{write_slot, low_first}
 use Rattle.one_wire_bus.specs.declared.Waits.{Waits}
-use Rattle.lines.proofs.Rows.{Owed, owed_all, owed-within, owed-fits, owed-turn, owed_none}
-use Rattle.one_wire_bus.proofs.Slots.{low-taken, length-low}
+use Rattle.lines.proofs.Rows.{Owed, owed_all, owed_within, owed_fits, owed_turn, owed_none}
+use Rattle.one_wire_bus.proofs.Slots.{low_taken, length_low}
 use Rattle.one_wire_bus.proofs.put_bits.Statement.{statement}
 use Rattle.one_wire_bus.proofs.put_bits.Tie as tie
 
 abbrev row : Waits → ℕ → List Action
-row w = writeSlot w release
+row w = write_slot w release
 
 abbrev invariant-loop : tie.invariant-loop
 invariant-loop out₀ w n byte at₀ i₀ out at i = (i ≤ n) × (at ≤ length out) × Owed (row w) (take n (low_first byte)) out₀ 0 i out at
@@ -21,8 +21,8 @@ invariant-loop out₀ w n byte at₀ i₀ out at i = (i ≤ n) × (at ≤ length
 abbrev decreases-loop : tie.decreases-loop
 decreases-loop out₀ w n byte at₀ i₀ out at i = n - i
 
-pub put-bits-spec : {M : Type 1} → statement M
-put-bits-spec =
+pub put_bits_spec : {M : Type 1} → statement M
+put_bits_spec =
     tie.close
     (tie.spec
     invariant-loop
@@ -38,7 +38,7 @@ put-bits-spec =
     let s = m.before.before in
     let n = s.args.n in
     let byte = s.args.byte in
-    owed-fits (row s.args.w) (take n (low_first byte)) m.loop.invariant.2 (omega (arith, length-low n byte (omega (arith, s.requires.0)))) (low-taken n byte m.loop.i (search rules) (omega (arith, s.requires.0))) s.requires.1)
+    owed_fits (row s.args.w) (take n (low_first byte)) m.loop.invariant.2 (omega (arith, length_low n byte (omega (arith, s.requires.0)))) (low_taken n byte m.loop.i (search rules) (omega (arith, s.requires.0))) s.requires.1)
     (λ c. search rules)
     (λ c. search rules)
     (λ c. search rules)
@@ -49,10 +49,10 @@ put-bits-spec =
     let s = m.before.before in
     let n = s.args.n in
     let byte = s.args.byte in
-    let o = owed-turn (row s.args.w) (take n (low_first byte)) m.loop.invariant.2 (omega (arith, length-low n byte (omega (arith, s.requires.0)))) (low-taken n byte m.loop.i (search rules) (omega (arith, s.requires.0))) (rw v.verb-for.ensures at p.put-slot.ensures) in
-    (omega arith, owed-within o s.requires.1, o))
+    let o = owed_turn (row s.args.w) (take n (low_first byte)) m.loop.invariant.2 (omega (arith, length_low n byte (omega (arith, s.requires.0)))) (low_taken n byte m.loop.i (search rules) (omega (arith, s.requires.0))) (rw v.verb-for.ensures at p.put-slot.ensures) in
+    (omega arith, owed_within o s.requires.1, o))
     (λ c. c.before.loop.invariant.2.size)
     (λ c.
     let m = c.before in
     let s = m.before.before in
-    owed_none (row s.args.w) _ m.loop.invariant.2 (omega (arith, length-low s.args.n s.args.byte (omega (arith, s.requires.0))))))
+    owed_none (row s.args.w) _ m.loop.invariant.2 (omega (arith, length_low s.args.n s.args.byte (omega (arith, s.requires.0))))))

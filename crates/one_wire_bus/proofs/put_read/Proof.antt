@@ -8,14 +8,14 @@ use native.Mathlib.Omega.{arith}
 use lib.ListN.{length}
 use Rattle.wire.specs.Action.{Action, bytes_of}
 use Rattle.packet.specs.Register.{zeros}
-use Rattle.one_wire_bus.specs.OneWire.{sampleSlot, read_slots}
+use Rattle.one_wire_bus.specs.OneWire.{sample_slot, read_slots}
 use Rattle.one_wire_bus.specs.declared.Waits.{Waits}
-use Rattle.lines.proofs.Rows.{Owed, owed_all, owed-within, owed-fits, owed-turn, owed_none, same-written, same-room}
+use Rattle.lines.proofs.Rows.{Owed, owed_all, owed_within, owed_fits, owed_turn, owed_none, same_written, same_room}
 use Rattle.one_wire_bus.proofs.put_read.Statement.{statement}
 use Rattle.one_wire_bus.proofs.put_read.Tie as tie
 
 abbrev row : Waits → ℕ → List Action
-row w x = sampleSlot w
+row w x = sample_slot w
 
 abbrev invariant-loop : tie.invariant-loop
 invariant-loop out₀ w at₀ i₀ out at i = (i ≤ 8) × (at ≤ length out) × Owed (row w) (zeros 8) out₀ 0 i out at
@@ -23,8 +23,8 @@ invariant-loop out₀ w at₀ i₀ out at i = (i ≤ 8) × (at ≤ length out) �
 abbrev decreases-loop : tie.decreases-loop
 decreases-loop out₀ w at₀ i₀ out at i = 8 - i
 
-pub put-read-spec : {M : Type 1} → statement M
-put-read-spec =
+pub put_read_spec : {M : Type 1} → statement M
+put_read_spec =
     tie.close
     (tie.spec
     invariant-loop
@@ -38,7 +38,7 @@ put-read-spec =
     let m = c.before.before in
     let g = m.before in
     let s = g.before.before in
-    owed-fits (row g.read-waits.result) (zeros 8) m.loop.invariant.2 (omega arith) refl (rw zero-add (same-room (ap (λ (w : Waits). bytes_of (read_slots w)) (sym g.read-waits.ensures)) s.requires)))
+    owed_fits (row g.read-waits.result) (zeros 8) m.loop.invariant.2 (omega arith) refl (rw zero-add (same_room (ap (λ (w : Waits). bytes_of (read_slots w)) (sym g.read-waits.ensures)) s.requires)))
     (λ c. search rules)
     (λ c. search rules)
     (λ c. search rules)
@@ -47,11 +47,11 @@ put-read-spec =
     let m = p.before.before.before in
     let g = m.before in
     let s = g.before.before in
-    let o = owed-turn (row g.read-waits.result) (zeros 8) m.loop.invariant.2 (omega arith) refl p.put-slot.ensures in
-    (omega arith, owed-within o (rw zero-add (same-room (ap (λ (w : Waits). bytes_of (read_slots w)) (sym g.read-waits.ensures)) s.requires)), o))
+    let o = owed_turn (row g.read-waits.result) (zeros 8) m.loop.invariant.2 (omega arith) refl p.put-slot.ensures in
+    (omega arith, owed_within o (rw zero-add (same_room (ap (λ (w : Waits). bytes_of (read_slots w)) (sym g.read-waits.ensures)) s.requires)), o))
     (λ c. c.before.loop.invariant.2.size)
     (λ c.
     let m = c.before in
     let g = m.before in
     let s = g.before.before in
-    same-written (ap (λ (w : Waits). bytes_of (read_slots w)) (sym g.read-waits.ensures)) (owed_none (row g.read-waits.result) _ m.loop.invariant.2 (omega arith))))
+    same_written (ap (λ (w : Waits). bytes_of (read_slots w)) (sym g.read-waits.ensures)) (owed_none (row g.read-waits.result) _ m.loop.invariant.2 (omega arith))))

@@ -4,8 +4,8 @@ use Rattle.lines.proofs.Rows.{then}
 use Rattle.one_wire_bus.proofs.put_slot.Statement.{statement}
 use Rattle.one_wire_bus.proofs.put_slot.Tie as tie
 
-pub put-slot-spec : {M : Type 1} → statement M
-put-slot-spec =
+pub put_slot_spec : {M : Type 1} → statement M
+put_slot_spec =
     tie.close
     (tie.spec
     (λ c κs. search rules)

@@ -4,8 +4,8 @@ use Rattle.lines.proofs.Rows.{then}
 use Rattle.one_wire_bus.proofs.put_step.Statement.{statement}
 use Rattle.one_wire_bus.proofs.put_step.Tie as tie
 
-pub put-step-spec : {M : Type 1} → statement M
-put-step-spec =
+pub put_step_spec : {M : Type 1} → statement M
+put_step_spec =
     tie.close
     (tie.spec
     (λ c κs. search rules)

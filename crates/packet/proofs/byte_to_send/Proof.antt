@@ -6,8 +6,8 @@ use lib.ListN.{get_or}
 use Rattle.packet.proofs.byte_to_send.Statement.{statement}
 use Rattle.packet.proofs.byte_to_send.Tie as tie
 
-pub byte-to-send-spec : {M : Type 1} → statement M
-byte-to-send-spec =
+pub byte_to_send_spec : {M : Type 1} → statement M
+byte_to_send_spec =
     tie.close
     (tie.spec
     (λ c. search rules)

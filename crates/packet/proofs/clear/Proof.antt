@@ -5,14 +5,14 @@ use Prim.Native.Nat.{◌-◌, ◌*◌, ◌≤◌}
 use native.Mathlib.Omega.{arith}
 use lib.ListN.{length, drop, length-set}
 use Rattle.packet.specs.Register.{bits, zeros}
-use Rattle.packet.specs.Packet.{width, registerBytes, kept, cleared}
-use Rattle.packet.proofs.Bytes.{length-register}
-use Rattle.packet.proofs.Filled.{kept_at, fill_start, fill-turn}
+use Rattle.packet.specs.Packet.{width, register_bytes, kept, cleared}
+use Rattle.packet.proofs.Bytes.{length_register}
+use Rattle.packet.proofs.Filled.{kept_at, fill_start, fill_turn}
 use Rattle.packet.proofs.clear.Statement.{statement}
 use Rattle.packet.proofs.clear.Tie as tie
 
 abbrev invariant-loop : tie.invariant-loop
-invariant-loop n r q₀ i₀ left₀ q i left = (i ≤ registerBytes) × (length q ≡ registerBytes) × (left ≡ n - 8 * (registerBytes - i)) × (drop i q ≡ drop i (cleared width n r))
+invariant-loop n r q₀ i₀ left₀ q i left = (i ≤ register_bytes) × (length q ≡ register_bytes) × (left ≡ n - 8 * (register_bytes - i)) × (drop i q ≡ drop i (cleared width n r))
 
 abbrev decreases-loop : tie.decreases-loop
 decreases-loop n r q₀ i₀ left₀ q i left = i
@@ -23,7 +23,7 @@ clear_spec =
     (tie.spec
     invariant-loop
     decreases-loop
-    (λ c. (omega arith, search rules, omega arith, fill_start registerBytes (zeros registerBytes) (kept width c.args.n (bits c.args.t1)) refl))
+    (λ c. (omega arith, search rules, omega arith, fill_start register_bytes (zeros register_bytes) (kept width c.args.n (bits c.args.t1)) refl))
     (λ c. search rules)
     (λ c. search rules)
     (λ c κs. search rules)
@@ -37,11 +37,11 @@ clear_spec =
     let r = s.args.t1 in
     let i = m.loop.i in
     let t = cleared width s.args.n r in
-    let l : length t ≡ registerBytes = length-register registerBytes (kept width s.args.n (bits r)) in (
+    let l : length t ≡ register_bytes = length_register register_bytes (kept width s.args.n (bits r)) in (
       omega arith,
       simp length-set (omega arith),
       omega arith,
-      fill-turn m.loop.q t i _ (search rules) (omega arith) (omega arith) (b.low_bits.ensures ∙ kept_at registerBytes s.args.n (i - 1) m.loop.left r s.well-formed.0.1.0.1 (omega arith) (omega arith)) m.loop.invariant.3,
+      fill_turn m.loop.q t i _ (search rules) (omega arith) (omega arith) (b.low_bits.ensures ∙ kept_at register_bytes s.args.n (i - 1) m.loop.left r s.well-formed.0.1.0.1 (omega arith) (omega arith)) m.loop.invariant.3,
     ))
     (λ c.
     let m = c.before in

@@ -6,19 +6,19 @@ use Prim.Native.Nat.{ℕ, ◌+◌, ◌-◌, ◌≤◌}
 use native.Mathlib.Omega.{arith}
 use lib.ListN.{length, take, set, length-set}
 use lib.Seq.{take_all}
-use Rattle.packet.specs.Packet.{registerBytes, fromHeld}
-use Rattle.packet.proofs.Loads.{load-turn}
+use Rattle.packet.specs.Packet.{register_bytes, from_held}
+use Rattle.packet.proofs.Loads.{load_turn}
 use Rattle.packet.proofs.load.Statement.{statement}
 use Rattle.packet.proofs.load.Tie as tie
 
 abbrev invariant-loop : tie.invariant-loop
-invariant-loop held q₀ i₀ q i = (i ≤ registerBytes) × (length q ≡ registerBytes) × (take i q ++ fromHeld (registerBytes - i) held ≡ fromHeld registerBytes held)
+invariant-loop held q₀ i₀ q i = (i ≤ register_bytes) × (length q ≡ register_bytes) × (take i q ++ from_held (register_bytes - i) held ≡ from_held register_bytes held)
 
 abbrev decreases-loop : tie.decreases-loop
-decreases-loop held q₀ i₀ q i = registerBytes - i
+decreases-loop held q₀ i₀ q i = register_bytes - i
 
 pub load_spec : {M : Type 1} → statement M
-unfolding fromHeld
+unfolding from_held
 load_spec =
     tie.close
     (tie.spec
@@ -36,15 +36,15 @@ load_spec =
     let held = m.before.before.args.held.now in (
       omega arith,
       simp length-set (omega arith),
-      ap (λ (b : ℕ). take (m.loop.i + 1) (set m.loop.q m.loop.i b) ++ fromHeld (registerBytes - (m.loop.i + 1)) held) c.byte_at.ensures
-          ∙ load-turn registerBytes m.loop.q held m.loop.i (search rules) m.loop.invariant.1
+      ap (λ (b : ℕ). take (m.loop.i + 1) (set m.loop.q m.loop.i b) ++ from_held (register_bytes - (m.loop.i + 1)) held) c.byte_at.ensures
+          ∙ load_turn register_bytes m.loop.q held m.loop.i (search rules) m.loop.invariant.1
           ∙ m.loop.invariant.2,
     ))
     (λ c.
     let m = c.before in
     let held = m.before.before.args.held.now in
-    let z : registerBytes - m.loop.i ≡ 0 = omega arith in
+    let z : register_bytes - m.loop.i ≡ 0 = omega arith in
     sym (take_all m.loop.i m.loop.q (omega arith))
     ∙ sym (append-nil (take m.loop.i m.loop.q))
-    ∙ ap (λ (k : ℕ). take m.loop.i m.loop.q ++ fromHeld k held) (sym z)
+    ∙ ap (λ (k : ℕ). take m.loop.i m.loop.q ++ from_held k held) (sym z)
     ∙ m.loop.invariant.2))

@@ -7,8 +7,8 @@ use Rattle.packet.specs.Packet.{width, cleared, aligned}
 use Rattle.packet.proofs.load_packet.Statement.{statement}
 use Rattle.packet.proofs.load_packet.Tie as tie
 
-pub load-packet-spec : {M : Type 1} → statement M
-load-packet-spec =
+pub load_packet_spec : {M : Type 1} → statement M
+load_packet_spec =
     tie.close
     (tie.spec
     (λ c κs. search rules)

@@ -11,8 +11,8 @@ use Rattle.packet.proofs.low_bits.Tie as tie
 shifted : (n : ℕ) → n < 8 → 1 * 2 ^ n % 256 ≡ 2 ^ n
 shifted n h = shl_exact {a = 1} 1 n 8 (omega arith) (omega arith) ∙ one-mul (2 ^ n)
 
-pub low-bits-spec : {M : Type 1} → statement M
-low-bits-spec =
+pub low_bits_spec : {M : Type 1} → statement M
+low_bits_spec =
     tie.close
     (tie.spec
     (λ c. search rules)

@@ -4,8 +4,8 @@ use native.Mathlib.Omega.{arith}
 use Rattle.packet.proofs.place_of.Statement.{statement}
 use Rattle.packet.proofs.place_of.Tie as tie
 
-pub place-of-spec : {M : Type 1} → statement M
-place-of-spec =
+pub place_of_spec : {M : Type 1} → statement M
+place_of_spec =
     tie.close
     (tie.spec
     (λ c. search rules)

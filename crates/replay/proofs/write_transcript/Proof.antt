@@ -13,8 +13,8 @@ invariant-loop session out₀ cursor₀ out cursor = 16384 ≡ length out
 abbrev decreases-loop : tie.decreases-loop
 decreases-loop session out₀ cursor₀ out cursor = left session cursor
 
-pub write-transcript-spec : {M : Type 1} → statement M
-write-transcript-spec =
+pub write_transcript_spec : {M : Type 1} → statement M
+write_transcript_spec =
     tie.close
     (tie.spec
     invariant-loop

@@ -3,17 +3,17 @@ use borrow.Author.Rules.{rules}
 use borrow.Author.Tests.{eq-eqb, ne_eqb}
 use native.Mathlib.Omega.{arith}
 use lib.ListN.{length-take}
-use Rattle.script.proofs.Parsing.{bytes-within}
+use Rattle.script.proofs.Parsing.{bytes_within}
 use Rattle.script.proofs.hand_over.Statement.{statement}
 use Rattle.script.proofs.hand_over.Tie as tie
 
-pub hand-over-spec : {M : Type 1} → statement M
-hand-over-spec =
+pub hand_over_spec : {M : Type 1} → statement M
+hand_over_spec =
     tie.close
     (tie.spec
     (λ c. search rules)
     (λ c. search rules)
-    (λ c. let q = c.before.before.before in simp length-take (omega (arith, bytes-within _ _ q.parsed.given.1 q.before.before.before.requires)))
+    (λ c. let q = c.before.before.before in simp length-take (omega (arith, bytes_within _ _ q.parsed.given.1 q.before.before.before.requires)))
     (λ c κs. search rules)
     (λ c. let q = c.before.before.before.before in rw (q.parsed.given.1, eq-eqb _ 1 c.before.before.if1.true) c.after-bytes.ensures)
     (λ c κs. search rules)

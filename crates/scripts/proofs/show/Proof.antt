@@ -5,8 +5,8 @@ use lib.ListN.{length-take}
 use Rattle.scripts.proofs.show.Statement.{statement}
 use Rattle.scripts.proofs.show.Tie as tie
 
-pub show-spec : {M : Type 1} → statement M
-show-spec =
+pub show_spec : {M : Type 1} → statement M
+show_spec =
     tie.close
     (tie.spec
     (λ c. search rules)

@@ -11,8 +11,8 @@ invariant-loop bytes total₀ tail₀ i₀ total tail i = (i ≤ length bytes) �
 abbrev decreases-loop : tie.decreases-loop
 decreases-loop bytes total₀ tail₀ i₀ total tail i = i
 
-pub sum-spec : {M : Type 1} → statement M
-sum-spec =
+pub sum_spec : {M : Type 1} → statement M
+sum_spec =
     tie.close
     (tie.spec
     invariant-loop

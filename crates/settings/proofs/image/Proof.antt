@@ -3,8 +3,8 @@ use borrow.Author.Rules.{rules}
 use Rattle.settings.proofs.image.Statement.{statement}
 use Rattle.settings.proofs.image.Tie as tie
 
-pub image-spec : {M : Type 1} → statement M
-image-spec =
+pub image_spec : {M : Type 1} → statement M
+image_spec =
     tie.close
     (tie.spec
     (λ c κs. search rules)

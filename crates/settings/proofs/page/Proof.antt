@@ -3,8 +3,8 @@ use borrow.Author.Rules.{rules}
 use Rattle.settings.proofs.page.Statement.{statement}
 use Rattle.settings.proofs.page.Tie as tie
 
-pub page-spec : {M : Type 1} → statement M
-page-spec =
+pub page_spec : {M : Type 1} → statement M
+page_spec =
     tie.close
     (tie.spec
     (λ c κs. search rules)

@@ -4,20 +4,20 @@ use mathlib.Core.Path.{◌≡◌, sym, ap, ◌∙◌}
 use mathlib.Core.List.{List}
 use Prim.Native.Nat.{ℕ}
 use Rattle.registers.specs.declared.Page.{Page}
-use Rattle.lines.specs.Waves.{measureOf}
+use Rattle.lines.specs.Waves.{measure_of}
 use Rattle.lines.specs.declared.Measured.{Measured}
-use Rattle.signals.specs.Waveforms.{Waveform, waveOf}
-use Rattle.signals.specs.Sensed.{onLines}
+use Rattle.signals.specs.Waveforms.{Waveform, wave_of}
+use Rattle.signals.specs.Sensed.{on_lines}
 use Rattle.signals.proofs.measure.Statement.{statement}
 use Rattle.signals.proofs.measure.Tie as tie
 
 -- what is measured of a waveform is what is measured of its name
-told : (p : Page) {w : Waveform} (v : Waveform) (ss : List ℕ) (from : ℕ) {r : Measured} → w ≡ v → r ≡ measureOf (onLines (waveOf p v ss from)) → r ≡ measureOf (onLines (waveOf p w ss from))
-told p v ss from e h = h ∙ sym (ap (λ (x : Waveform). measureOf (onLines (waveOf p x ss from))) e)
+told : (p : Page) {w : Waveform} (v : Waveform) (ss : List ℕ) (from : ℕ) {r : Measured} → w ≡ v → r ≡ measure_of (on_lines (wave_of p v ss from)) → r ≡ measure_of (on_lines (wave_of p w ss from))
+told p v ss from e h = h ∙ sym (ap (λ (x : Waveform). measure_of (on_lines (wave_of p x ss from))) e)
 
-pub measure-spec : {M : Type 1} → statement M
-unfolding waveOf
-measure-spec =
+pub measure_spec : {M : Type 1} → statement M
+unfolding wave_of
+measure_spec =
     tie.close
     (tie.spec
     (λ c. search rules)

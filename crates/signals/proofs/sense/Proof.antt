@@ -3,8 +3,8 @@ use borrow.Author.Rules.{rules}
 use Rattle.signals.proofs.sense.Statement.{statement}
 use Rattle.signals.proofs.sense.Tie as tie
 
-pub sense-spec : {M : Type 1} → statement M
-sense-spec =
+pub sense_spec : {M : Type 1} → statement M
+sense_spec =
     tie.close
     (tie.spec
     (λ c κs. search rules)

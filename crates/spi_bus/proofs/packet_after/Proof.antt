@@ -3,16 +3,16 @@ use borrow.Author.Rules.{rules}
 use mathlib.Core.Path.{◌≡◌, sym, ◌∙◌}
 use lib.ListN.{length, length-map}
 use native.Mathlib.Omega.{arith}
-use Rattle.packet.specs.Packet.{width, registerBytes}
-use Rattle.packet.proofs.Shifts.{exchange-right}
-use Rattle.registers.specs.Registers.{highFirst, bitsIn}
+use Rattle.packet.specs.Packet.{width, register_bytes}
+use Rattle.packet.proofs.Shifts.{exchange_right}
+use Rattle.registers.specs.Registers.{high_first, bits_in}
 use Rattle.lines.specs.Lines.{levels}
-use Rattle.lines.proofs.Levels.{length-levels}
+use Rattle.lines.proofs.Levels.{length_levels}
 use Rattle.spi_bus.proofs.packet_after.Statement.{statement}
 use Rattle.spi_bus.proofs.packet_after.Tie as tie
 
-pub packet-after-spec : {M : Type 1} → statement M
-packet-after-spec =
+pub packet_after_spec : {M : Type 1} → statement M
+packet_after_spec =
     tie.close
     (tie.spec
     (λ c κs. search rules)
@@ -22,7 +22,7 @@ packet-after-spec =
     let b = c.before.before in
     let s = b.before.before.before in
     let p = s.args.page in
-    let l : length p.packet ≡ registerBytes = sym (length-map p.packet _) ∙ s.well-formed.0.1.1.1.1.0.1.0.1 in
-    let ls = levels s.args.samples.now s.args.from (bitsIn p) in
+    let l : length p.packet ≡ register_bytes = sym (length-map p.packet _) ∙ s.well-formed.0.1.1.1.1.0.1.0.1 in
+    let ls = levels s.args.samples.now s.args.from (bits_in p) in
     (rw (c.before.high-first.ensures, b.bits_of.ensures) at c.exchange.ensures)
-    ∙ (exchange-right width (highFirst p.config) ls p.packet (omega arith) (omega (arith, s.requires.0, length-levels s.args.samples.now s.args.from (bitsIn p)))).holds))
+    ∙ (exchange_right width (high_first p.config) ls p.packet (omega arith) (omega (arith, s.requires.0, length_levels s.args.samples.now s.args.from (bits_in p)))).holds))

@@ -1,12 +1,12 @@
 -- By the phase, the row of the definition.
 use borrow.Author.Rules.{rules}
-use Rattle.spi_bus.specs.Spi.{spiBit}
+use Rattle.spi_bus.specs.Spi.{spi_bit}
 use Rattle.spi_bus.proofs.put_bit.Statement.{statement}
 use Rattle.spi_bus.proofs.put_bit.Tie as tie
 
-pub put-bit-spec : {M : Type 1} → statement M
-unfolding spiBit
-put-bit-spec =
+pub put_bit_spec : {M : Type 1} → statement M
+unfolding spi_bit
+put_bit_spec =
     tie.close
     (tie.spec
     (λ c. search rules)

@@ -1,13 +1,13 @@
 -- The parts of the configuration are the definition's.
 use borrow.Author.Rules.{rules}
 use native.Mathlib.Omega.{arith}
-use Rattle.spi_bus.specs.Spi.{spiBits}
+use Rattle.spi_bus.specs.Spi.{spi_bits}
 use Rattle.spi_bus.proofs.put_exchange.Statement.{statement}
 use Rattle.spi_bus.proofs.put_exchange.Tie as tie
 
-pub put-exchange-spec : {M : Type 1} → statement M
-unfolding spiBits
-put-exchange-spec =
+pub put_exchange_spec : {M : Type 1} → statement M
+unfolding spi_bits
+put_exchange_spec =
     tie.close
     (tie.spec
     (λ c κs. search rules)

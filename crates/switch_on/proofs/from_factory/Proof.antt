@@ -5,8 +5,8 @@ use Rattle.switch_on.specs.SwitchOn.{Switched}
 use Rattle.switch_on.proofs.from_factory.Statement.{statement}
 use Rattle.switch_on.proofs.from_factory.Tie as tie
 
-pub from-factory-spec : {M : Type 1} → statement M
-from-factory-spec =
+pub from_factory_spec : {M : Type 1} → statement M
+from_factory_spec =
     tie.close
     (tie.spec
     (λ c. search rules)

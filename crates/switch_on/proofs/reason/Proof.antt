@@ -4,8 +4,8 @@ use mathlib.Core.Path.{sym, ◌∙◌}
 use Rattle.switch_on.proofs.reason.Statement.{statement}
 use Rattle.switch_on.proofs.reason.Tie as tie
 
-pub reason-spec : {M : Type 1} → statement M
-reason-spec =
+pub reason_spec : {M : Type 1} → statement M
+reason_spec =
     tie.close
     (tie.spec
     (λ c κs. search rules)

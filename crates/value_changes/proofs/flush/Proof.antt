@@ -6,8 +6,8 @@ use lib.Seq.{length-take-le}
 use Rattle.value_changes.proofs.flush.Statement.{statement}
 use Rattle.value_changes.proofs.flush.Tie as tie
 
-pub flush-spec : {M : Type 1} → statement M
-flush-spec =
+pub flush_spec : {M : Type 1} → statement M
+flush_spec =
     tie.close
     (tie.spec
     (λ c. sym (length-take-le _ _ (search rules)))

@@ -5,8 +5,8 @@ use Rattle.value_changes.proofs.Collecting.{same_bit}
 use Rattle.value_changes.proofs.put_bit.Statement.{statement}
 use Rattle.value_changes.proofs.put_bit.Tie as tie
 
-pub put-bit-spec : {M : Type 1} → statement M
-put-bit-spec =
+pub put_bit_spec : {M : Type 1} → statement M
+put_bit_spec =
     tie.close
     (tie.spec
     (λ c. let a = c.before.before.args in same_bit (a.text.now, a.used) a.old a.new a.identifier a.number (eq-eqb _ _ c.if1.true))

@@ -1,12 +1,12 @@
 -- Row by row; the digits are the number's.
 use borrow.Author.Rules.{rules}
 use mathlib.Core.List.{[], ◌∷◌}
-use Rattle.value_changes.proofs.Collecting.{three-rows}
+use Rattle.value_changes.proofs.Collecting.{three_rows}
 use Rattle.value_changes.proofs.put_time.Statement.{statement}
 use Rattle.value_changes.proofs.put_time.Tie as tie
 
-pub put-time-spec : {M : Type 1} → statement M
-put-time-spec =
+pub put_time_spec : {M : Type 1} → statement M
+put_time_spec =
     tie.close
     (tie.spec
     (λ c κs. search rules)
@@ -27,5 +27,5 @@ put-time-spec =
     record {
       count = d.result;
       fewest = d.ensures.1.0;
-      rows = three-rows (a.text.now, a.used) (0x23 ∷ []) (0x0A ∷ []) first.put.ensures second.put2.ensures d.ensures.1.1 third.put3.ensures;
+      rows = three_rows (a.text.now, a.used) (0x23 ∷ []) (0x0A ∷ []) first.put.ensures second.put2.ensures d.ensures.1.1 third.put3.ensures;
     }))

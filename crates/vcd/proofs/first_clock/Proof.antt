@@ -11,8 +11,8 @@ invariant-loop session records₀ cursor₀ records cursor = 4096 ≡ length rec
 abbrev decreases-loop : tie.decreases-loop
 decreases-loop session records₀ cursor₀ records cursor = left session cursor
 
-pub first-clock-spec : {M : Type 1} → statement M
-first-clock-spec =
+pub first_clock_spec : {M : Type 1} → statement M
+first_clock_spec =
     tie.close
     (tie.spec
     invariant-loop

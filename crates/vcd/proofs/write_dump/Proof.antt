@@ -11,8 +11,8 @@ invariant-loop session pull-up text₀ records₀ clock d₀ cursor₀ text reco
 abbrev decreases-loop : tie.decreases-loop
 decreases-loop session pull-up text₀ records₀ clock d₀ cursor₀ text records d cursor = left session cursor
 
-pub write-dump-spec : {M : Type 1} → statement M
-write-dump-spec =
+pub write_dump_spec : {M : Type 1} → statement M
+write_dump_spec =
     tie.close
     (tie.spec
     invariant-loop

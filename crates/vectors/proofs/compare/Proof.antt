@@ -11,8 +11,8 @@ invariant-loop session stored fd cursor₀ left₀ same₀ cursor left same = Un
 abbrev decreases-loop : tie.decreases-loop
 decreases-loop session stored fd cursor₀ left₀ same₀ cursor left same = runs.left session cursor
 
-pub compare-spec : {M : Type 1} → statement M
-compare-spec =
+pub compare_spec : {M : Type 1} → statement M
+compare_spec =
     tie.close
     (tie.spec
     invariant-loop

@@ -5,8 +5,8 @@ use lib.ListN.{length-take}
 use Rattle.vectors.proofs.compare_chunk.Statement.{statement}
 use Rattle.vectors.proofs.compare_chunk.Tie as tie
 
-pub compare-chunk-spec : {M : Type 1} → statement M
-compare-chunk-spec =
+pub compare_chunk_spec : {M : Type 1} → statement M
+compare_chunk_spec =
     tie.close
     (tie.spec
     (λ c κs. search rules)

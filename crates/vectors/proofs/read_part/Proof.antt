@@ -11,8 +11,8 @@ use Rattle.vectors.proofs.read_part.Tie as tie
 counted : (n : ℕ) (l : List ℕ) → n ≤ length l → IsPrefixLen n l
 counted n l h = (h, simp length-take (omega arith))
 
-pub read-part-spec : {M : Type 1} → statement M
-read-part-spec =
+pub read_part_spec : {M : Type 1} → statement M
+read_part_spec =
     tie.close
     (tie.spec
     (λ c. search rules)

@@ -10,8 +10,8 @@ invariant-loop fd run₀ differ₀ run differ = (differ ≤ run) × (run ≤ 100
 abbrev decreases-loop : tie.decreases-loop
 decreases-loop fd run₀ differ₀ run differ = 1000000 - run
 
-pub run-all-spec : {M : Type 1} → statement M
-run-all-spec =
+pub run_all_spec : {M : Type 1} → statement M
+run_all_spec =
     tie.close
     (tie.spec
     invariant-loop

@@ -10,8 +10,8 @@ invariant-loop fd n left₀ left = Unit {0}
 abbrev decreases-loop : tie.decreases-loop
 decreases-loop fd n left₀ left = left
 
-pub skip-spec : {M : Type 1} → statement M
-skip-spec =
+pub skip_spec : {M : Type 1} → statement M
+skip_spec =
     tie.close
     (tie.spec
     invariant-loop

@@ -5,7 +5,7 @@ use Prim.Native.Nat.{◌+◌, ◌-◌, ◌≤◌}
 use native.Mathlib.Omega.{arith}
 use lib.ListN.{length, drop, length-set}
 use Rattle.wire.specs.Buffer.{overwrite}
-use Rattle.wire.proofs.Buffers.{put-turn, put-done}
+use Rattle.wire.proofs.Buffers.{put_turn, put_done}
 use Rattle.wire.proofs.put_bytes.Statement.{statement}
 use Rattle.wire.proofs.put_bytes.Tie as tie
 
@@ -15,8 +15,8 @@ invariant-loop out₀ at row i₀ out i = (i ≤ length row) × (length out ≡ 
 abbrev decreases-loop : tie.decreases-loop
 decreases-loop out₀ at row i₀ out i = length row - i
 
-pub put-bytes-spec : {M : Type 1} → statement M
-put-bytes-spec =
+pub put_bytes_spec : {M : Type 1} → statement M
+put_bytes_spec =
     tie.close
     (tie.spec
     invariant-loop
@@ -27,7 +27,7 @@ put-bytes-spec =
     (λ c. search rules)
     (λ c. search rules)
     (λ c. search rules)
-    (λ c. (omega arith, simp length-set (omega arith), put-turn _ _ _ _ (search rules) ∙ c.before.before.loop.invariant.2))
+    (λ c. (omega arith, simp length-set (omega arith), put_turn _ _ _ _ (search rules) ∙ c.before.before.loop.invariant.2))
     (λ c. search rules)
     (λ c. search rules)
-    (λ c. put-done _ _ _ _ _ (omega arith) c.before.loop.invariant.2))
+    (λ c. put_done _ _ _ _ _ (omega arith) c.before.loop.invariant.2))

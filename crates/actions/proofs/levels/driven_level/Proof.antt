@@ -3,8 +3,8 @@ use borrow.Author.Tests.{ne_eqb}
 use Rattle.actions.proofs.levels.driven_level.Statement.{statement}
 use Rattle.actions.proofs.levels.driven_level.Tie as tie
 
-pub driven-level-spec : {M : Type 1} → statement M
-driven-level-spec =
+pub driven_level_spec : {M : Type 1} → statement M
+driven_level_spec =
     tie.close
     (tie.spec
     (λ c. rw c.match.keys1)

@@ -9,8 +9,8 @@ use Rattle.actions.specs.Levels.{near}
 use Rattle.actions.proofs.levels.is_sampled.Statement.{statement}
 use Rattle.actions.proofs.levels.is_sampled.Tie as tie
 
-pub is-sampled-spec : {M : Type 1} → statement M
-is-sampled-spec =
+pub is_sampled_spec : {M : Type 1} → statement M
+is_sampled_spec =
     tie.close
     (tie.spec
     (λ c κs. search rules)

@@ -4,8 +4,8 @@ use borrow.Author.Tests.{ne_eqb}
 use Rattle.actions.proofs.reading.wait_of.Statement.{statement}
 use Rattle.actions.proofs.reading.wait_of.Tie as tie
 
-pub wait-of-spec : {M : Type 1} → statement M
-wait-of-spec =
+pub wait_of_spec : {M : Type 1} → statement M
+wait_of_spec =
     tie.close
     (tie.spec
     (λ c. search rules)

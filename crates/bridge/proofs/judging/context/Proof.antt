@@ -3,8 +3,8 @@ use borrow.Author.Rules.{rules}
 use Rattle.bridge.proofs.judging.context.Statement.{statement}
 use Rattle.bridge.proofs.judging.context.Tie as tie
 
-pub context-spec : {M : Type 1} → statement M
-context-spec =
+pub context_spec : {M : Type 1} → statement M
+context_spec =
     tie.close
     (tie.spec
     (λ c κs. search rules)

@@ -5,8 +5,8 @@ use lib.ListN.{length-take}
 use Rattle.cases.proofs.switched.show_images.Statement.{statement}
 use Rattle.cases.proofs.switched.show_images.Tie as tie
 
-pub show-images-spec : {M : Type 1} → statement M
-show-images-spec =
+pub show_images_spec : {M : Type 1} → statement M
+show_images_spec =
     tie.close
     (tie.spec
     (λ c. search rules)

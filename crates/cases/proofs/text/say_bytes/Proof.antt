@@ -11,8 +11,8 @@ invariant-loop word bytes i₀ i = Unit {0}
 abbrev decreases-loop : tie.decreases-loop
 decreases-loop word bytes i₀ i = length bytes - i
 
-pub say-bytes-spec : {M : Type 1} → statement M
-say-bytes-spec =
+pub say_bytes_spec : {M : Type 1} → statement M
+say_bytes_spec =
     tie.close
     (tie.spec
     invariant-loop

@@ -3,8 +3,8 @@ use borrow.Author.Rules.{rules}
 use Rattle.commands.proofs.checks.legality_of.Statement.{statement}
 use Rattle.commands.proofs.checks.legality_of.Tie as tie
 
-pub legality-of-spec : {M : Type 1} → statement M
-legality-of-spec =
+pub legality_of_spec : {M : Type 1} → statement M
+legality_of_spec =
     tie.close
     (tie.spec
     (λ c κs. search rules)

@@ -3,16 +3,16 @@ use Prim.Native.Nat.{ℕ}
 use mathlib.Core.Path.{◌≡◌, sym}
 use mathlib.Core.Bool.{Bool}
 use Rattle.codes.proofs.Lookup.{missed}
-use Rattle.commands.specs.Commands.{extendedTable, commandTable, commandOf}
+use Rattle.commands.specs.Commands.{extended_table, command_table, command_of}
 use Rattle.commands.specs.declared.Command.TheVariants as k
 use Rattle.commands.proofs.decoding.command_of.Statement.{statement}
 use Rattle.commands.proofs.decoding.command_of.Tie as tie
 
-row : {x y : Bool} {b n : ℕ} → x ≡ y → b ≡ n → commandOf y n ≡ commandOf x b
-row e q = λ i. commandOf (sym e i) (sym q i)
+row : {x y : Bool} {b n : ℕ} → x ≡ y → b ≡ n → command_of y n ≡ command_of x b
+row e q = λ i. command_of (sym e i) (sym q i)
 
-pub command-of-spec : {M : Type 1} → statement M
-command-of-spec =
+pub command_of_spec : {M : Type 1} → statement M
+command_of_spec =
     tie.close
     (tie.spec
     (λ c. row c.before.if1.true c.match.keys1)
@@ -26,7 +26,7 @@ command-of-spec =
     (λ c. row c.before.if1.true c.match.keys9)
     (λ c. row c.before.if1.true c.match.keys10)
     (λ c. row c.before.if1.true c.match.keys11)
-    (λ c. rw c.before.if1.true (missed k.Unknown (Unit {0}) extendedTable c.before.before.args.b c.match.rest))
+    (λ c. rw c.before.if1.true (missed k.Unknown (Unit {0}) extended_table c.before.before.args.b c.match.rest))
     (λ c. row c.before.if1.false c.match2.keys1)
     (λ c. row c.before.if1.false c.match2.keys2)
     (λ c. row c.before.if1.false c.match2.keys3)
@@ -90,4 +90,4 @@ command-of-spec =
     (λ c. row c.before.if1.false c.match2.keys61)
     (λ c. row c.before.if1.false c.match2.keys62)
     (λ c. row c.before.if1.false c.match2.keys63)
-    (λ c. rw c.before.if1.false (missed k.Unknown (Unit {0}) commandTable c.before.before.args.b c.match2.rest)))
+    (λ c. rw c.before.if1.false (missed k.Unknown (Unit {0}) command_table c.before.before.args.b c.match2.rest)))

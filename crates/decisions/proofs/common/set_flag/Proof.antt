@@ -3,8 +3,8 @@ use borrow.Author.Rules.{rules}
 use Rattle.decisions.proofs.common.set_flag.Statement.{statement}
 use Rattle.decisions.proofs.common.set_flag.Tie as tie
 
-pub set-flag-spec : {M : Type 1} → statement M
-set-flag-spec =
+pub set_flag_spec : {M : Type 1} → statement M
+set_flag_spec =
     tie.close
     (tie.spec
     (λ c κs. search rules)

@@ -3,8 +3,8 @@ use borrow.Author.Rules.{rules}
 use Rattle.decisions.proofs.common.set_iog.Statement.{statement}
 use Rattle.decisions.proofs.common.set_iog.Tie as tie
 
-pub set-iog-spec : {M : Type 1} → statement M
-set-iog-spec =
+pub set_iog_spec : {M : Type 1} → statement M
+set_iog_spec =
     tie.close
     (tie.spec
     (λ c κs. search rules)

@@ -3,8 +3,8 @@ use borrow.Author.Rules.{rules}
 use Rattle.decisions.proofs.events.clause_of.Statement.{statement}
 use Rattle.decisions.proofs.events.clause_of.Tie as tie
 
-pub clause-of-spec : {M : Type 1} → statement M
-clause-of-spec =
+pub clause_of_spec : {M : Type 1} → statement M
+clause_of_spec =
     tie.close
     (tie.spec
     (λ c. search rules)

@@ -3,8 +3,8 @@ use borrow.Author.Rules.{rules}
 use Rattle.decisions.proofs.extended.pulse.Statement.{statement}
 use Rattle.decisions.proofs.extended.pulse.Tie as tie
 
-pub pulse-spec : {M : Type 1} → statement M
-pulse-spec =
+pub pulse_spec : {M : Type 1} → statement M
+pulse_spec =
     tie.close
     (tie.spec
     (λ c κs. search rules)

@@ -3,8 +3,8 @@ use borrow.Author.Rules.{rules}
 use Rattle.decisions.proofs.extended.set_bit.Statement.{statement}
 use Rattle.decisions.proofs.extended.set_bit.Tie as tie
 
-pub set-bit-spec : {M : Type 1} → statement M
-set-bit-spec =
+pub set_bit_spec : {M : Type 1} → statement M
+set_bit_spec =
     tie.close
     (tie.spec
     (λ c κs. search rules)

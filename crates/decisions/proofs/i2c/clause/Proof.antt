@@ -3,8 +3,8 @@ use borrow.Author.Rules.{rules}
 use Rattle.decisions.proofs.i2c.clause.Statement.{statement}
 use Rattle.decisions.proofs.i2c.clause.Tie as tie
 
-pub clause-spec : {M : Type 1} → statement M
-clause-spec =
+pub clause_spec : {M : Type 1} → statement M
+clause_spec =
     tie.close
     (tie.spec
     (λ c. search rules)

@@ -3,8 +3,8 @@ use borrow.Author.Rules.{rules}
 use Rattle.decisions.proofs.operands.clause.Statement.{statement}
 use Rattle.decisions.proofs.operands.clause.Tie as tie
 
-pub clause-spec : {M : Type 1} → statement M
-clause-spec =
+pub clause_spec : {M : Type 1} → statement M
+clause_spec =
     tie.close
     (tie.spec
     (λ c. search rules)
@@ -28,7 +28,7 @@ clause-spec =
     (λ c. rw c.before.enum_told.given.1 c.deciding.ensures)
     (λ c. rw c.before.enum-told2.given.1 c.ending.ensures)
     (λ c. rw c.before.enum-told3.given.1 c.deciding2.ensures)
-    (λ c. rw (c.before.before.enum-told4.given.1, ← c.before.size-register.ensures) c.deciding3.ensures)
+    (λ c. rw (c.before.before.enum-told4.given.1, ← c.before.size_register.ensures) c.deciding3.ensures)
     (λ c. rw c.before.enum-told5.given.1 c.ending2.ensures)
     (λ c. rw c.before.enum-told6.given.1 c.ending3.ensures)
     (λ c. rw c.before.enum-told7.given.1 c.ending4.ensures))

@@ -3,8 +3,8 @@ use borrow.Author.Rules.{rules}
 use Rattle.decisions.proofs.operands.write_port.Statement.{statement}
 use Rattle.decisions.proofs.operands.write_port.Tie as tie
 
-pub write-port-spec : {M : Type 1} → statement M
-write-port-spec =
+pub write_port_spec : {M : Type 1} → statement M
+write_port_spec =
     tie.close
     (tie.spec
     (λ c κs. search rules)

@@ -6,8 +6,8 @@ use Rattle.wire.proofs.Choices.{chosen}
 use Rattle.decisions.proofs.packets.packet_byte.Statement.{statement}
 use Rattle.decisions.proofs.packets.packet_byte.Tie as tie
 
-pub packet-byte-spec : {M : Type 1} → statement M
-packet-byte-spec =
+pub packet_byte_spec : {M : Type 1} → statement M
+packet_byte_spec =
     tie.close
     (tie.spec
     (λ c κs. search rules)

@@ -3,8 +3,8 @@ use borrow.Author.Rules.{rules}
 use Rattle.decisions.proofs.rejections.rejected.Statement.{statement}
 use Rattle.decisions.proofs.rejections.rejected.Tie as tie
 
-pub rejected-spec : {M : Type 1} → statement M
-rejected-spec =
+pub rejected_spec : {M : Type 1} → statement M
+rejected_spec =
     tie.close
     (tie.spec
     (λ c κs. search rules)

@@ -6,8 +6,8 @@ use Rattle.wire.proofs.Choices.{chosen}
 use Rattle.decisions.proofs.timings.timing_byte.Statement.{statement}
 use Rattle.decisions.proofs.timings.timing_byte.Tie as tie
 
-pub timing-byte-spec : {M : Type 1} → statement M
-timing-byte-spec =
+pub timing_byte_spec : {M : Type 1} → statement M
+timing_byte_spec =
     tie.close
     (tie.spec
     (λ c. search rules)

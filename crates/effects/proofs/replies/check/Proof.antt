@@ -3,8 +3,8 @@ use borrow.Author.Rules.{rules}
 use Rattle.effects.proofs.replies.check.Statement.{statement}
 use Rattle.effects.proofs.replies.check.Tie as tie
 
-pub check-spec : {M : Type 1} → statement M
-check-spec =
+pub check_spec : {M : Type 1} → statement M
+check_spec =
     tie.close
     (tie.spec
     (λ c κs. search rules)

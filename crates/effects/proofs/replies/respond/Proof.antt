@@ -3,8 +3,8 @@ use borrow.Author.Rules.{rules}
 use Rattle.effects.proofs.replies.respond.Statement.{statement}
 use Rattle.effects.proofs.replies.respond.Tie as tie
 
-pub respond-spec : {M : Type 1} → statement M
-respond-spec =
+pub respond_spec : {M : Type 1} → statement M
+respond_spec =
     tie.close
     (tie.spec
     (λ c. search rules)

@@ -1,11 +1,11 @@
 -- By whether reports are on.
 use borrow.Author.Rules.{rules}
-use Rattle.decisions.specs.Said.{errorAfter, repliesOf}
+use Rattle.decisions.specs.Said.{error_after, replies_of}
 use Rattle.effects.proofs.replies.store.Statement.{statement}
 use Rattle.effects.proofs.replies.store.Tie as tie
 
 pub store_spec : {M : Type 1} → statement M
-unfolding errorAfter repliesOf
+unfolding error_after replies_of
 store_spec =
     tie.close
     (tie.spec

@@ -1,12 +1,12 @@
 -- By whether reports are on.
 use borrow.Author.Rules.{rules}
-use Rattle.decisions.specs.Said.{errorAfter, repliesOf}
+use Rattle.decisions.specs.Said.{error_after, replies_of}
 use Rattle.effects.proofs.replies.store_twice.Statement.{statement}
 use Rattle.effects.proofs.replies.store_twice.Tie as tie
 
-pub store-twice-spec : {M : Type 1} → statement M
-unfolding errorAfter repliesOf
-store-twice-spec =
+pub store_twice_spec : {M : Type 1} → statement M
+unfolding error_after replies_of
+store_twice_spec =
     tie.close
     (tie.spec
     (λ c κs. search rules)

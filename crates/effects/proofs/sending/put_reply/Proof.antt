@@ -1,12 +1,12 @@
 -- Reply by reply, its bytes.
 use borrow.Author.Rules.{rules}
 use native.Mathlib.Omega.{arith}
-use Rattle.wire.proofs.Buffers.{written_none, written-append, placed}
+use Rattle.wire.proofs.Buffers.{written_none, written_append, placed}
 use Rattle.effects.proofs.sending.put_reply.Statement.{statement}
 use Rattle.effects.proofs.sending.put_reply.Tie as tie
 
-pub put-reply-spec : {M : Type 1} → statement M
-put-reply-spec =
+pub put_reply_spec : {M : Type 1} → statement M
+put_reply_spec =
     tie.close
     (tie.spec
     (λ c. search rules)
@@ -53,4 +53,4 @@ put-reply-spec =
     (λ c. search rules)
     (λ c. rw (c.before.before.before.before.before.enum-told6.given.1, ← c.before.before.before.before.before.before.before.bits_of.ensures) c.before.before.put_low.ensures)
     (λ c. search rules)
-    (λ c. rw (c.before.before.before.before.before.before.before.before.before.before.before.reply3.given.1, ← c.before.before.before.before.before.before.before.before.before.before.before.before.before.bits_of.ensures) (written-append _ _ _ _ c.before.before.before.before.before.before.put-bytes5.ensures (placed c.before.before.put-low2.ensures))))
+    (λ c. rw (c.before.before.before.before.before.before.before.before.before.before.before.reply3.given.1, ← c.before.before.before.before.before.before.before.before.before.before.before.before.before.bits_of.ensures) (written_append _ _ _ _ c.before.before.before.before.before.before.put-bytes5.ensures (placed c.before.before.put-low2.ensures))))

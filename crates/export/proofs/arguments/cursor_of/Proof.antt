@@ -3,8 +3,8 @@ use borrow.Author.Rules.{rules}
 use Rattle.export.proofs.arguments.cursor_of.Statement.{statement}
 use Rattle.export.proofs.arguments.cursor_of.Tie as tie
 
-pub cursor-of-spec : {M : Type 1} → statement M
-cursor-of-spec =
+pub cursor_of_spec : {M : Type 1} → statement M
+cursor_of_spec =
     tie.close
     (tie.spec
     (λ c κs. search rules)

@@ -4,8 +4,8 @@ use borrow.Author.Tests.{eq-eqb, ne_eqb}
 use Rattle.export.proofs.arguments.event_of.Statement.{statement}
 use Rattle.export.proofs.arguments.event_of.Tie as tie
 
-pub event-of-spec : {M : Type 1} → statement M
-event-of-spec =
+pub event_of_spec : {M : Type 1} → statement M
+event_of_spec =
     tie.close
     (tie.spec
     (λ c. rw (eq-eqb _ _ c.if1.true))

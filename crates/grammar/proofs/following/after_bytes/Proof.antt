@@ -8,20 +8,20 @@ use native.Mathlib.Omega.{arith}
 use lib.ListN.{length, drop, length-drop}
 use lib.Seq.{take_all}
 use Rattle.grammar.specs.Scanner.{Scanner}
-use Rattle.grammar.specs.Following.{Stream, followed, undropped, afterBytes}
+use Rattle.grammar.specs.Following.{Stream, followed, undropped, after_bytes}
 use Rattle.grammar.proofs.following.after_bytes.Statement.{statement}
 use Rattle.grammar.proofs.following.after_bytes.Tie as tie
 
-none : (s : Stream) (bs : List ℕ) → length bs ≡ 0 → s ≡ afterBytes s bs
+none : (s : Stream) (bs : List ℕ) → length bs ≡ 0 → s ≡ after_bytes s bs
 none s [] e = refl
 none s (b ∷ bs) e = absurd (omega (arith, e))
 
-some : (s : Stream) (bs : List ℕ) (g : Scanner) {pending : Bool} → ¬ (length bs ≡ 0) → s.drop ≡ pending → g ≡ followed s.scanner (cond pending (drop 1 bs) bs) → undropped g ≡ afterBytes s bs
+some : (s : Stream) (bs : List ℕ) (g : Scanner) {pending : Bool} → ¬ (length bs ≡ 0) → s.drop ≡ pending → g ≡ followed s.scanner (cond pending (drop 1 bs) bs) → undropped g ≡ after_bytes s bs
 some s [] g n u e = absurd (n refl)
 some s (b ∷ bs) g n u e = ap undropped (e ∙ ap (λ (p : Bool). followed s.scanner (cond p bs (b ∷ bs))) (sym u))
 
-pub after-bytes-spec : {M : Type 1} → statement M
-after-bytes-spec =
+pub after_bytes_spec : {M : Type 1} → statement M
+after_bytes_spec =
     tie.close
     (tie.spec
     (λ c. let a = c.before.before.args in none a.s a.bytes.now c.if1.true)

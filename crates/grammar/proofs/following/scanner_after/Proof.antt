@@ -4,8 +4,8 @@ use mathlib.Core.Path.{sym, ◌∙◌}
 use Rattle.grammar.proofs.following.scanner_after.Statement.{statement}
 use Rattle.grammar.proofs.following.scanner_after.Tie as tie
 
-pub scanner-after-spec : {M : Type 1} → statement M
-scanner-after-spec =
+pub scanner_after_spec : {M : Type 1} → statement M
+scanner_after_spec =
     tie.close
     (tie.spec
     (λ c κs. search rules)

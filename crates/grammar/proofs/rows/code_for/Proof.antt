@@ -3,49 +3,49 @@ use Prim.Native.Nat.{ℕ, ◌<◌}
 use mathlib.Core.Path.{◌≡◌, refl, ap}
 use mathlib.Core.Bool.{Bool, cond, ◌&&◌, ◌||◌}
 use borrow.Author.Rules.{rules}
-use Rattle.codes.specs.Codes.{noConfiguration, unknownCommand, wrongInterface}
-use Rattle.grammar.specs.Grammar.{I2C, SPI, OneWire, Context, commands, extendedCommands, selected}
-use Rattle.grammar.specs.Scanner.{openingOf, extensionOf}
-use Rattle.grammar.specs.Lookups.{is_of, needsConfigured, code_of}
-use Rattle.grammar.proofs.Lookups.{values, byte-fact}
+use Rattle.codes.specs.Codes.{no_configuration, unknown_command, wrong_interface}
+use Rattle.grammar.specs.Grammar.{I2C, SPI, OneWire, Context, commands, extended_commands, selected}
+use Rattle.grammar.specs.Scanner.{opening_of, extension_of}
+use Rattle.grammar.specs.Lookups.{is_of, needs_configured, code_of}
+use Rattle.grammar.proofs.Lookups.{values, byte_fact}
 use Rattle.grammar.proofs.rows.code_for.Statement.{statement}
 use Rattle.grammar.proofs.rows.code_for.Tie as tie
 
 abbrev unknown : ℕ → Context → ℕ
-unknown b c = unknownCommand
+unknown b c = unknown_command
 
-extended-computed : values unknown 256 0 ≡ values (λ (b : ℕ) (c : Context). code_of (extensionOf b) c) 256 0
-unfolding extensionOf extendedCommands
-extended-computed = refl
+extended_computed : values unknown 256 0 ≡ values (λ (b : ℕ) (c : Context). code_of (extension_of b) c) 256 0
+unfolding extension_of extended_commands
+extended_computed = refl
 
-after-1D : (b : ℕ) (c : Context) → b < 256 → unknownCommand ≡ code_of (extensionOf b) c
-after-1D b c h = ap (λ (f : Context → ℕ). f c) (byte-fact unknown (λ (b : ℕ) (c : Context). code_of (extensionOf b) c) extended-computed b h)
+after_1d : (b : ℕ) (c : Context) → b < 256 → unknown_command ≡ code_of (extension_of b) c
+after_1d b c h = ap (λ (f : Context → ℕ). f c) (byte_fact unknown (λ (b : ℕ) (c : Context). code_of (extension_of b) c) extended_computed b h)
 
 -- a command of some interface
-abbrev ofAny : ℕ → Bool
-ofAny b = is_of I2C (openingOf b) || is_of SPI (openingOf b) || is_of OneWire (openingOf b)
+abbrev of_any : ℕ → Bool
+of_any b = is_of I2C (opening_of b) || is_of SPI (opening_of b) || is_of OneWire (opening_of b)
 
-abbrev codeBy : ℕ → Context → ℕ
-codeBy b c = cond (needsConfigured (openingOf b) && selected SPI c) noConfiguration (cond (ofAny b) wrongInterface unknownCommand)
+abbrev code_by : ℕ → Context → ℕ
+code_by b c = cond (needs_configured (opening_of b) && selected SPI c) no_configuration (cond (of_any b) wrong_interface unknown_command)
 
-computed : values codeBy 256 0 ≡ values (λ (b : ℕ) (c : Context). code_of (openingOf b) c) 256 0
-unfolding openingOf commands
+computed : values code_by 256 0 ≡ values (λ (b : ℕ) (c : Context). code_of (opening_of b) c) 256 0
+unfolding opening_of commands
 computed = refl
 
-between-items : (b : ℕ) (c : Context) → b < 256 → codeBy b c ≡ code_of (openingOf b) c
-between-items b c h = ap (λ (f : Context → ℕ). f c) (byte-fact codeBy (λ (b : ℕ) (c : Context). code_of (openingOf b) c) computed b h)
+between_items : (b : ℕ) (c : Context) → b < 256 → code_by b c ≡ code_of (opening_of b) c
+between_items b c h = ap (λ (f : Context → ℕ). f c) (byte_fact code_by (λ (b : ℕ) (c : Context). code_of (opening_of b) c) computed b h)
 
-pub code-for-spec : {M : Type 1} → statement M
-code-for-spec =
+pub code_for_spec : {M : Type 1} → statement M
+code_for_spec =
     tie.close
     (tie.spec
-    (λ c. rw c.if1.true (after-1D c.before.args.b c.before.args.c (search rules)))
+    (λ c. rw c.if1.true (after_1d c.before.args.b c.before.args.c (search rules)))
     (λ c κs. search rules)
     (λ c κs. search rules)
     (λ c.
     let n = c.before.before in
     let s = n.before.before in
-    rw (n.before.if1.false, ← between-items s.args.b s.args.c (search rules), ← n.needs-configured.ensures, ← c.before.is-selected.ensures, c.if2.true))
+    rw (n.before.if1.false, ← between_items s.args.b s.args.c (search rules), ← n.needs-configured.ensures, ← c.before.is-selected.ensures, c.if2.true))
     (λ c κs. search rules)
     (λ c κs. search rules)
     (λ c κs. search rules)
@@ -53,9 +53,9 @@ code-for-spec =
     let o = c.before.before.before in
     let n = o.before.before.before in
     let a = n.before.before.args in
-    rw (n.before.if1.false, ← between-items a.b a.c (search rules), ← n.needs-configured.ensures, ← o.before.before.is-selected.ensures, o.before.if2.false, ← o.is-of.ensures, ← c.before.before.is-of2.ensures, ← c.before.is-of3.ensures, c.if3.true))
+    rw (n.before.if1.false, ← between_items a.b a.c (search rules), ← n.needs-configured.ensures, ← o.before.before.is-selected.ensures, o.before.if2.false, ← o.is-of.ensures, ← c.before.before.is-of2.ensures, ← c.before.is-of3.ensures, c.if3.true))
     (λ c.
     let o = c.before.before.before in
     let n = o.before.before.before in
     let a = n.before.before.args in
-    rw (n.before.if1.false, ← between-items a.b a.c (search rules), ← n.needs-configured.ensures, ← o.before.before.is-selected.ensures, o.before.if2.false, ← o.is-of.ensures, ← c.before.before.is-of2.ensures, ← c.before.is-of3.ensures, c.if3.false)))
+    rw (n.before.if1.false, ← between_items a.b a.c (search rules), ← n.needs-configured.ensures, ← o.before.before.is-selected.ensures, o.before.if2.false, ← o.is-of.ensures, ← c.before.before.is-of2.ensures, ← c.before.is-of3.ensures, c.if3.false)))

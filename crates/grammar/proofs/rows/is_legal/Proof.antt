@@ -4,25 +4,25 @@ use mathlib.Core.Path.{◌≡◌, refl, ap}
 use mathlib.Core.Bool.{Bool, ◌&&◌, ◌||◌}
 use borrow.Author.Rules.{rules}
 use lib.Dec.{ltb, leb}
-use Rattle.grammar.specs.Grammar.{Context, extendedCommands}
-use Rattle.grammar.specs.Scanner.{extensionOf}
+use Rattle.grammar.specs.Grammar.{Context, extended_commands}
+use Rattle.grammar.specs.Scanner.{extension_of}
 use Rattle.grammar.specs.Lookups.{accepts}
-use Rattle.grammar.proofs.Lookups.{values, byte-fact}
+use Rattle.grammar.proofs.Lookups.{values, byte_fact}
 use Rattle.grammar.proofs.rows.is_legal.Statement.{statement}
 use Rattle.grammar.proofs.rows.is_legal.Tie as tie
 
 abbrev listed : ℕ → Context → Bool
 listed b c = (leb 0x01 b && ltb b 0x04) || (leb 0x08 b && ltb b 0x10)
 
-computed : values listed 256 0 ≡ values (λ (b : ℕ) (c : Context). accepts (extensionOf b) c) 256 0
-unfolding extensionOf extendedCommands
+computed : values listed 256 0 ≡ values (λ (b : ℕ) (c : Context). accepts (extension_of b) c) 256 0
+unfolding extension_of extended_commands
 computed = refl
 
-follows : (b : ℕ) (c : Context) → b < 256 → listed b c ≡ accepts (extensionOf b) c
-follows b c h = ap (λ (f : Context → Bool). f c) (byte-fact listed (λ (b : ℕ) (c : Context). accepts (extensionOf b) c) computed b h)
+follows : (b : ℕ) (c : Context) → b < 256 → listed b c ≡ accepts (extension_of b) c
+follows b c h = ap (λ (f : Context → Bool). f c) (byte_fact listed (λ (b : ℕ) (c : Context). accepts (extension_of b) c) computed b h)
 
-pub is-legal-spec : {M : Type 1} → statement M
-is-legal-spec =
+pub is_legal_spec : {M : Type 1} → statement M
+is_legal_spec =
     tie.close
     (tie.spec
     (λ c. rw c.if1.true (follows c.before.args.b c.before.args.c (search rules)))

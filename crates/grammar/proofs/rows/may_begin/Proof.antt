@@ -6,42 +6,42 @@ use borrow.Author.Rules.{rules}
 use borrow.Author.Tests.{lt-ltb, le-ltb}
 use lib.Dec.{ltb}
 use Rattle.grammar.specs.Grammar.{Interface, NoInterface, I2C, SPI, OneWire, Context, commands}
-use Rattle.grammar.specs.Scanner.{openingOf}
-use Rattle.grammar.specs.Lookups.{accepts, is_of, needsConfigured}
-use Rattle.grammar.proofs.Lookups.{values, byte-fact}
+use Rattle.grammar.specs.Scanner.{opening_of}
+use Rattle.grammar.specs.Lookups.{accepts, is_of, needs_configured}
+use Rattle.grammar.proofs.Lookups.{values, byte_fact}
 use Rattle.grammar.proofs.rows.may_begin.Statement.{statement}
 use Rattle.grammar.proofs.rows.may_begin.Tie as tie
 
 -- a byte past the common commands
 abbrev own : Interface → Bool → ℕ → Bool
 own NoInterface q b = false
-own I2C q b = is_of I2C (openingOf b)
-own SPI q b = is_of SPI (openingOf b) && (not (needsConfigured (openingOf b)) || q)
-own OneWire q b = is_of OneWire (openingOf b)
+own I2C q b = is_of I2C (opening_of b)
+own SPI q b = is_of SPI (opening_of b) && (not (needs_configured (opening_of b)) || q)
+own OneWire q b = is_of OneWire (opening_of b)
 
-abbrev legalBy : Interface → ℕ → Bool → ℕ → Bool
-legalBy i b q n = cond (ltb b 0x1F) true (own i q b)
+abbrev legal_by : Interface → ℕ → Bool → ℕ → Bool
+legal_by i b q n = cond (ltb b 0x1F) true (own i q b)
 
-abbrev legalIn : Interface → ℕ → Bool → ℕ → Bool
-legalIn i b q n = accepts (openingOf b) (record { interface = i; configured = q; bits = n })
+abbrev legal_in : Interface → ℕ → Bool → ℕ → Bool
+legal_in i b q n = accepts (opening_of b) (record { interface = i; configured = q; bits = n })
 
-computed : (i : Interface) → values (legalBy i) 256 0 ≡ values (legalIn i) 256 0
-unfolding openingOf commands
+computed : (i : Interface) → values (legal_by i) 256 0 ≡ values (legal_in i) 256 0
+unfolding opening_of commands
 computed NoInterface = refl
 computed I2C = refl
 computed SPI = refl
 computed OneWire = refl
 
-begins : (b : ℕ) (c : Context) (t : Bool) → b < 256 → ltb b 0x1F ≡ t → cond t true (own c.interface c.configured b) ≡ accepts (openingOf b) c
+begins : (b : ℕ) (c : Context) (t : Bool) → b < 256 → ltb b 0x1F ≡ t → cond t true (own c.interface c.configured b) ≡ accepts (opening_of b) c
 begins b c t h q =
     sym (ap (λ (x : Bool). cond x true (own c.interface c.configured b)) q)
-    ∙ ap (λ (f : Bool → ℕ → Bool). f c.configured c.bits) (byte-fact (legalBy c.interface) (legalIn c.interface) (computed c.interface) b h)
+    ∙ ap (λ (f : Bool → ℕ → Bool). f c.configured c.bits) (byte_fact (legal_by c.interface) (legal_in c.interface) (computed c.interface) b h)
 
-its_own : (b : ℕ) (c : Context) (i : Interface) → b < 256 → 0x1F ≤ b → c.interface ≡ i → own i c.configured b ≡ accepts (openingOf b) c
+its_own : (b : ℕ) (c : Context) (i : Interface) → b < 256 → 0x1F ≤ b → c.interface ≡ i → own i c.configured b ≡ accepts (opening_of b) c
 its_own b c i h l q = sym (ap (λ (j : Interface). own j c.configured b) q) ∙ begins b c false h (le-ltb b 0x1F l)
 
-pub may-begin-spec : {M : Type 1} → statement M
-may-begin-spec =
+pub may_begin_spec : {M : Type 1} → statement M
+may_begin_spec =
     tie.close
     (tie.spec
     (λ c. begins c.before.args.b c.before.args.c true (search rules) (lt-ltb _ _ c.if1.true))

@@ -5,18 +5,18 @@ use mathlib.Core.Bool.{Bool, ◌||◌}
 use borrow.Author.Rules.{rules}
 use lib.Dec.{eqb}
 use Rattle.grammar.specs.Grammar.{commands}
-use Rattle.grammar.specs.Scanner.{openingOf}
-use Rattle.grammar.specs.Lookups.{needsConfigured}
-use Rattle.grammar.proofs.Lookups.{values, byte-fact}
+use Rattle.grammar.specs.Scanner.{opening_of}
+use Rattle.grammar.specs.Lookups.{needs_configured}
+use Rattle.grammar.proofs.Lookups.{values, byte_fact}
 use Rattle.grammar.proofs.rows.needs_configured.Statement.{statement}
 use Rattle.grammar.proofs.rows.needs_configured.Tie as tie
 
 abbrev five : ℕ → Bool
 five b = eqb b 0x41 || eqb b 0x44 || eqb b 0x46 || eqb b 0x4B || eqb b 0x4C
 
-computed : values five 256 0 ≡ values (λ (b : ℕ). needsConfigured (openingOf b)) 256 0
-unfolding openingOf commands
+computed : values five 256 0 ≡ values (λ (b : ℕ). needs_configured (opening_of b)) 256 0
+unfolding opening_of commands
 computed = refl
 
-pub needs-configured-spec : {M : Type 1} → statement M
-needs-configured-spec = tie.close (tie.spec (λ c. byte-fact five (λ (b : ℕ). needsConfigured (openingOf b)) computed c.args.b (search rules)))
+pub needs_configured_spec : {M : Type 1} → statement M
+needs_configured_spec = tie.close (tie.spec (λ c. byte_fact five (λ (b : ℕ). needs_configured (opening_of b)) computed c.args.b (search rules)))

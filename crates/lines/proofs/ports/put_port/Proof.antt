@@ -4,8 +4,8 @@ use Rattle.lines.proofs.Rows.{then}
 use Rattle.lines.proofs.ports.put_port.Statement.{statement}
 use Rattle.lines.proofs.ports.put_port.Tie as tie
 
-pub put-port-spec : {M : Type 1} → statement M
-put-port-spec =
+pub put_port_spec : {M : Type 1} → statement M
+put_port_spec =
     tie.close
     (tie.spec
     (λ c κs. search rules)

@@ -4,8 +4,8 @@ use Rattle.lines.proofs.Rows.{then}
 use Rattle.lines.proofs.ports.put_ports.Statement.{statement}
 use Rattle.lines.proofs.ports.put_ports.Tie as tie
 
-pub put-ports-spec : {M : Type 1} → statement M
-put-ports-spec =
+pub put_ports_spec : {M : Type 1} → statement M
+put_ports_spec =
     tie.close
     (tie.spec
     (λ c κs. search rules)

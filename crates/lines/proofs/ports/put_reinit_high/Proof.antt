@@ -4,8 +4,8 @@ use Rattle.lines.proofs.Rows.{then}
 use Rattle.lines.proofs.ports.put_reinit_high.Statement.{statement}
 use Rattle.lines.proofs.ports.put_reinit_high.Tie as tie
 
-pub put-reinit-high-spec : {M : Type 1} → statement M
-put-reinit-high-spec =
+pub put_reinit_high_spec : {M : Type 1} → statement M
+put_reinit_high_spec =
     tie.close
     (tie.spec
     (λ c κs. search rules)

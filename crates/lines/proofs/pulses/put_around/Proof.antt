@@ -4,8 +4,8 @@ use Rattle.lines.proofs.Rows.{then}
 use Rattle.lines.proofs.pulses.put_around.Statement.{statement}
 use Rattle.lines.proofs.pulses.put_around.Tie as tie
 
-pub put-around-spec : {M : Type 1} → statement M
-put-around-spec =
+pub put_around_spec : {M : Type 1} → statement M
+put_around_spec =
     tie.close
     (tie.spec
     (λ c κs. search rules)

@@ -9,9 +9,9 @@ use lib.Pow.{pow_pos}
 use lib.Seq.{slice, length-take-le, get_or-take}
 use Rattle.packet.specs.Register.{number}
 use Rattle.packet.specs.Packet.{order}
-use Rattle.packet.proofs.Places.{length-order}
+use Rattle.packet.proofs.Places.{length_order}
 use Rattle.lines.specs.Lines.{levels}
-use Rattle.lines.proofs.Levels.{length-levels, number-turn, number-below, seven-bits}
+use Rattle.lines.proofs.Levels.{length_levels, number_turn, number_below, seven_bits}
 use Rattle.lines.proofs.readings.number_of.Statement.{statement}
 use Rattle.lines.proofs.readings.number_of.Tie as tie
 
@@ -22,11 +22,11 @@ abbrev decreases-loop : tie.decreases-loop
 decreases-loop samples from n first end high v₀ i₀ v i = end - i
 
 small : (c : tie.After-level-in invariant-loop decreases-loop) → c.before.before.loop.v < 128
-small c = seven-bits _ _ c.before.before.loop.invariant.1 (omega arith)
+small c = seven_bits _ _ c.before.before.loop.invariant.1 (omega arith)
 
-pub number-of-spec : {M : Type 1} → statement M
+pub number_of_spec : {M : Type 1} → statement M
 unfolding number
-number-of-spec =
+number_of_spec =
     tie.close
     (tie.spec
     invariant-loop
@@ -44,12 +44,12 @@ number-of-spec =
     let first = s.args.first in
     let end = s.args.end in
     let xs = order s.args.high (levels s.args.samples.now s.args.from s.args.n) in
-    let e : length xs ≡ s.args.n = length-order s.args.high _ ∙ length-levels s.args.samples.now s.args.from s.args.n in
+    let e : length xs ≡ s.args.n = length_order s.args.high _ ∙ length_levels s.args.samples.now s.args.from s.args.n in
     let t : length (take end xs) ≡ end = length-take-le end xs (omega arith) in
     let k : i + 1 - first ≡ i - first + 1 = omega arith in (
       omega arith,
-      rw k (number-below _ _ _ m.loop.invariant.1 c.level_in.ensures.1),
-      number-turn m.loop.v (take end xs) i _ (omega arith) (c.level_in.ensures.0 ∙ sym (get_or-take end xs i 0 (search rules))) ∙ m.loop.invariant.2,
+      rw k (number_below _ _ _ m.loop.invariant.1 c.level_in.ensures.1),
+      number_turn m.loop.v (take end xs) i _ (omega arith) (c.level_in.ensures.0 ∙ sym (get_or-take end xs i 0 (search rules))) ∙ m.loop.invariant.2,
     ))
     (λ c.
     let m = c.before in

@@ -4,8 +4,8 @@ use Rattle.lines.proofs.Rows.{then}
 use Rattle.lines.proofs.several.put_four.Statement.{statement}
 use Rattle.lines.proofs.several.put_four.Tie as tie
 
-pub put-four-spec : {M : Type 1} → statement M
-put-four-spec =
+pub put_four_spec : {M : Type 1} → statement M
+put_four_spec =
     tie.close
     (tie.spec
     (λ c κs. search rules)

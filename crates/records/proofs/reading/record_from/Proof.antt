@@ -1,13 +1,13 @@
 -- Past the body, past the file, or in a body of bytes.
 use borrow.Author.Rules.{rules}
 use borrow.Author.Tests.{lt-ltb, le-ltb, le-leb, lt-leb}
-use Rattle.records.specs.Records.{recordFrom}
+use Rattle.records.specs.Records.{record_from}
 use Rattle.records.proofs.reading.record_from.Statement.{statement}
 use Rattle.records.proofs.reading.record_from.Tie as tie
 
-pub record-from-spec : {M : Type 1} → statement M
-unfolding recordFrom
-record-from-spec =
+pub record_from_spec : {M : Type 1} → statement M
+unfolding record_from
+record_from_spec =
     tie.close
     (tie.spec
     (λ c κs. search rules)

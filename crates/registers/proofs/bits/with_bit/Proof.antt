@@ -3,8 +3,8 @@ use borrow.Author.Rules.{rules}
 use Rattle.registers.proofs.bits.with_bit.Statement.{statement}
 use Rattle.registers.proofs.bits.with_bit.Tie as tie
 
-pub with-bit-spec : {M : Type 1} → statement M
-with-bit-spec =
+pub with_bit_spec : {M : Type 1} → statement M
+with_bit_spec =
     tie.close
     (tie.spec
     (λ c κs. search rules)

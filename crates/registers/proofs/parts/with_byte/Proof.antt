@@ -6,8 +6,8 @@ use lib.Seq.{set_out}
 use Rattle.registers.proofs.parts.with_byte.Statement.{statement}
 use Rattle.registers.proofs.parts.with_byte.Tie as tie
 
-pub with-byte-spec : {M : Type 1} → statement M
-with-byte-spec =
+pub with_byte_spec : {M : Type 1} → statement M
+with_byte_spec =
     tie.close
     (tie.spec
     (λ c. search rules)

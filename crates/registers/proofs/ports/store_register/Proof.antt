@@ -3,8 +3,8 @@ use borrow.Author.Rules.{rules}
 use Rattle.registers.proofs.ports.store_register.Statement.{statement}
 use Rattle.registers.proofs.ports.store_register.Tie as tie
 
-pub store-register-spec : {M : Type 1} → statement M
-store-register-spec =
+pub store_register_spec : {M : Type 1} → statement M
+store_register_spec =
     tie.close
     (tie.spec
     (λ c. search rules)

@@ -7,8 +7,8 @@ use Rattle.script.specs.Statements.{takes}
 use Rattle.script.proofs.statements.command_parsed.Statement.{statement}
 use Rattle.script.proofs.statements.command_parsed.Tie as tie
 
-pub command-parsed-spec : {M : Type 1} → statement M
-command-parsed-spec =
+pub command_parsed_spec : {M : Type 1} → statement M
+command_parsed_spec =
     tie.close
     (tie.spec
     (λ c. search rules)

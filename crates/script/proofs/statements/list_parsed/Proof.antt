@@ -4,8 +4,8 @@ use borrow.Author.Tests.{eq-eqb, ne_eqb}
 use Rattle.script.proofs.statements.list_parsed.Statement.{statement}
 use Rattle.script.proofs.statements.list_parsed.Tie as tie
 
-pub list-parsed-spec : {M : Type 1} → statement M
-list-parsed-spec =
+pub list_parsed_spec : {M : Type 1} → statement M
+list_parsed_spec =
     tie.close
     (tie.spec
     (λ c. search rules)

@@ -3,8 +3,8 @@ use borrow.Author.Rules.{rules}
 use Rattle.script.proofs.statements.takes.Statement.{statement}
 use Rattle.script.proofs.statements.takes.Tie as tie
 
-pub takes-spec : {M : Type 1} → statement M
-takes-spec =
+pub takes_spec : {M : Type 1} → statement M
+takes_spec =
     tie.close
     (tie.spec
     (λ c κs. search rules)

@@ -3,13 +3,13 @@ use borrow.Author.Rules.{rules}
 use borrow.Author.Tests.{not-true, not-false}
 use mathlib.Core.Path.{sym, ap, ◌∙◌}
 use native.Mathlib.Omega.{arith}
-use Rattle.registers.proofs.InRange.{range-test}
+use Rattle.registers.proofs.InRange.{range_test}
 use Rattle.refusals.specs.declared.Refusal.TheVariants.{Ranges}
-use Rattle.records.specs.Contents.{eventOf}
+use Rattle.records.specs.Contents.{event_of}
 use Rattle.bridge.specs.Answering.{Given}
 use lib.ListN.{get_or}
-use Rattle.transcript.proofs.CallTests.{call-ranges}
-use Rattle.session.proofs.Advances.{first-refused, first_stops, first-accepted}
+use Rattle.transcript.proofs.CallTests.{call_ranges}
+use Rattle.session.proofs.Advances.{first_refused, first_stops, first_accepted}
 use Rattle.session.proofs.advancing.take_first.Statement.{statement}
 use Rattle.session.proofs.advancing.take_first.Tie as tie
 
@@ -24,14 +24,14 @@ take_first_spec =
     (λ c.
     let i = c.before.before.before.before.before.before in
     let a = i.before.before.before.before.before.args in
-    let t = call-ranges a.c.bridge (eventOf a.fault (get_or a.body.now 0 0)) a.samples.now (sym i.in-range.ensures ∙ not-true _ c.before.before.before.before.before.if1.true) in
-    rw c.codeless.ensures (first-refused a.c a.fault a.start a.end a.body.now a.samples.now a.out.now Ranges (ap (λ (g : Given). g.answer.outcome) t) c.before.before.before.stop.ensures))
+    let t = call_ranges a.c.bridge (event_of a.fault (get_or a.body.now 0 0)) a.samples.now (sym i.in_range.ensures ∙ not-true _ c.before.before.before.before.before.if1.true) in
+    rw c.codeless.ensures (first_refused a.c a.fault a.start a.end a.body.now a.samples.now a.out.now Ranges (ap (λ (g : Given). g.answer.outcome) t) c.before.before.before.stop.ensures))
     (λ c. search rules)
     (λ c κs. search rules)
     (λ c κs.
     let i = c.before.before.before.before in
     let s = i.before.before.before.before.before in
-    ((range-test s.args.c.bridge.state).0 (sym i.in-range.ensures ∙ not-false _ c.before.before.before.if1.false), s.requires.0))
+    ((range_test s.args.c.bridge.state).0 (sym i.in_range.ensures ∙ not-false _ c.before.before.before.if1.false), s.requires.0))
     (λ c. search rules)
     (λ c κs. search rules)
     (λ c κs. search rules)
@@ -53,4 +53,4 @@ take_first_spec =
     let d = c.before.before.before.before.before.before.before.before in
     let v = d.before.before in
     let a = v.before.before.before.before.before.before.before.before.args in
-    first-accepted a.c a.fault a.start a.end a.body.now a.samples.now a.out.now v.event-of.ensures d.take-event.ensures c.before.before.before.before.enum_told.given.1 c.standing.ensures))
+    first_accepted a.c a.fault a.start a.end a.body.now a.samples.now a.out.now v.event-of.ensures d.take-event.ensures c.before.before.before.before.enum_told.given.1 c.standing.ensures))

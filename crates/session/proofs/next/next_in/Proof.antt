@@ -4,8 +4,8 @@ use borrow.Author.Tests.{eq-eqb, ne_eqb}
 use Rattle.session.proofs.next.next_in.Statement.{statement}
 use Rattle.session.proofs.next.next_in.Tie as tie
 
-pub next-in-spec : {M : Type 1} → statement M
-next-in-spec =
+pub next_in_spec : {M : Type 1} → statement M
+next_in_spec =
     tie.close
     (tie.spec
     (λ c κs. search rules)

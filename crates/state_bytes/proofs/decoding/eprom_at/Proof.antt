@@ -1,13 +1,13 @@
 -- The part is copied whole.
 use borrow.Author.Rules.{rules}
 use mathlib.Core.Path.{refl}
-use Rattle.registers.specs.Registers.{imageBytes}
-use Rattle.state_bytes.proofs.Parts.{piece-copied}
+use Rattle.registers.specs.Registers.{image_bytes}
+use Rattle.state_bytes.proofs.Parts.{piece_copied}
 use Rattle.state_bytes.proofs.decoding.eprom_at.Statement.{statement}
 use Rattle.state_bytes.proofs.decoding.eprom_at.Tie as tie
 
-pub eprom-at-spec : {M : Type 1} → statement M
-eprom-at-spec =
+pub eprom_at_spec : {M : Type 1} → statement M
+eprom_at_spec =
     tie.close
     (tie.spec
     (λ c. search rules)
@@ -18,4 +18,4 @@ eprom-at-spec =
     (λ c κs. search rules)
     (λ c.
     let s = c.before.before.before.before.before in
-    piece-copied s.args.bytes.now _ s.args.at imageBytes refl s.requires c.before.put-bytes.ensures))
+    piece_copied s.args.bytes.now _ s.args.at image_bytes refl s.requires c.before.put-bytes.ensures))

@@ -1,13 +1,13 @@
 -- The part is copied whole.
 use borrow.Author.Rules.{rules}
 use mathlib.Core.Path.{refl}
-use Rattle.registers.specs.Registers.{heldBytes}
-use Rattle.state_bytes.proofs.Parts.{piece-copied}
+use Rattle.registers.specs.Registers.{held_bytes}
+use Rattle.state_bytes.proofs.Parts.{piece_copied}
 use Rattle.state_bytes.proofs.decoding.held_at.Statement.{statement}
 use Rattle.state_bytes.proofs.decoding.held_at.Tie as tie
 
-pub held-at-spec : {M : Type 1} → statement M
-held-at-spec =
+pub held_at_spec : {M : Type 1} → statement M
+held_at_spec =
     tie.close
     (tie.spec
     (λ c. search rules)
@@ -18,4 +18,4 @@ held-at-spec =
     (λ c κs. search rules)
     (λ c.
     let s = c.before.before.before.before.before in
-    piece-copied s.args.bytes.now _ s.args.at heldBytes refl s.requires c.before.put-bytes.ensures))
+    piece_copied s.args.bytes.now _ s.args.at held_bytes refl s.requires c.before.put-bytes.ensures))

@@ -1,13 +1,13 @@
 -- The part is copied whole.
 use borrow.Author.Rules.{rules}
 use mathlib.Core.Path.{refl}
-use Rattle.packet.specs.Packet.{registerBytes}
-use Rattle.state_bytes.proofs.Parts.{piece-copied}
+use Rattle.packet.specs.Packet.{register_bytes}
+use Rattle.state_bytes.proofs.Parts.{piece_copied}
 use Rattle.state_bytes.proofs.decoding.packet_at.Statement.{statement}
 use Rattle.state_bytes.proofs.decoding.packet_at.Tie as tie
 
-pub packet-at-spec : {M : Type 1} → statement M
-packet-at-spec =
+pub packet_at_spec : {M : Type 1} → statement M
+packet_at_spec =
     tie.close
     (tie.spec
     (λ c. search rules)
@@ -18,4 +18,4 @@ packet-at-spec =
     (λ c κs. search rules)
     (λ c.
     let s = c.before.before.before.before.before in
-    piece-copied s.args.bytes.now _ s.args.at registerBytes refl s.requires c.before.put-bytes.ensures))
+    piece_copied s.args.bytes.now _ s.args.at register_bytes refl s.requires c.before.put-bytes.ensures))

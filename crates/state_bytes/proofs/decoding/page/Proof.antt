@@ -3,8 +3,8 @@ use borrow.Author.Rules.{rules}
 use Rattle.state_bytes.proofs.decoding.page.Statement.{statement}
 use Rattle.state_bytes.proofs.decoding.page.Tie as tie
 
-pub page-spec : {M : Type 1} → statement M
-page-spec =
+pub page_spec : {M : Type 1} → statement M
+page_spec =
     tie.close
     (tie.spec
     (λ c κs. search rules)

@@ -3,8 +3,8 @@ use borrow.Author.Rules.{rules}
 use Rattle.state_bytes.proofs.decoding.shared.Statement.{statement}
 use Rattle.state_bytes.proofs.decoding.shared.Tie as tie
 
-pub shared-spec : {M : Type 1} → statement M
-shared-spec =
+pub shared_spec : {M : Type 1} → statement M
+shared_spec =
     tie.close
     (tie.spec
     (λ c κs. search rules)

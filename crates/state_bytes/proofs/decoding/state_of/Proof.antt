@@ -1,12 +1,12 @@
 -- Part by part.
 use borrow.Author.Rules.{rules}
-use Rattle.state_bytes.specs.StateBytes.{stateIn}
+use Rattle.state_bytes.specs.StateBytes.{state_in}
 use Rattle.state_bytes.proofs.decoding.state_of.Statement.{statement}
 use Rattle.state_bytes.proofs.decoding.state_of.Tie as tie
 
-pub state-of-spec : {M : Type 1} → statement M
-unfolding stateIn
-state-of-spec =
+pub state_of_spec : {M : Type 1} → statement M
+unfolding state_in
+state_of_spec =
     tie.close
     (tie.spec
     (λ c κs. search rules)

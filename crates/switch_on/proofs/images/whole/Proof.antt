@@ -1,12 +1,12 @@
 -- A list of ten is its elements.
 use borrow.Author.Rules.{rules}
 use mathlib.Core.Path.{sym}
-use Rattle.settings.proofs.Good.{image-listed}
+use Rattle.settings.proofs.Good.{image_listed}
 use Rattle.switch_on.proofs.images.whole.Statement.{statement}
 use Rattle.switch_on.proofs.images.whole.Tie as tie
 
-pub whole-spec : {M : Type 1} → statement M
-whole-spec =
+pub whole_spec : {M : Type 1} → statement M
+whole_spec =
     tie.close
     (tie.spec
     (λ c. search rules)
@@ -19,4 +19,4 @@ whole-spec =
     (λ c. search rules)
     (λ c. search rules)
     (λ c. search rules)
-    (λ c. sym (image-listed _ c.before.before.before.before.before.before.before.before.before.before.requires)))
+    (λ c. sym (image_listed _ c.before.before.before.before.before.before.before.before.before.before.requires)))

@@ -7,7 +7,7 @@ use native.Mathlib.Nat.{add-zero, sub-zero}
 use native.Mathlib.Omega.{arith}
 use lib.ListN.{length, set, replicate, length-set, length-replicate}
 use Rattle.wire.specs.Buffer.{overwrite, Written}
-use Rattle.wire.proofs.Buffers.{overwrite-none}
+use Rattle.wire.proofs.Buffers.{overwrite_none}
 use Rattle.text.proofs.lists.fill.Statement.{statement}
 use Rattle.text.proofs.lists.fill.Tie as tie
 
@@ -18,9 +18,9 @@ invariant-loop body₀ at byte count i₀ body i =
 abbrev decreases-loop : tie.decreases-loop
 decreases-loop body₀ at byte count i₀ body i = count - i
 
-fill-turn : (l : List ℕ) (at b k i : ℕ) → i < k → overwrite (set l (at + i) b) (at + (i + 1)) (replicate (k - (i + 1)) b) ≡ overwrite l (at + i) (replicate (k - i) b)
+fill_turn : (l : List ℕ) (at b k i : ℕ) → i < k → overwrite (set l (at + i) b) (at + (i + 1)) (replicate (k - (i + 1)) b) ≡ overwrite l (at + i) (replicate (k - i) b)
 unfolding overwrite
-fill-turn l at b k i h =
+fill_turn l at b k i h =
     let e : at + (i + 1) ≡ suc (at + i) = omega arith in
     let n : k - i ≡ suc (k - (i + 1)) = omega arith in
     rw (e, n)
@@ -29,7 +29,7 @@ fill_done : (l : List ℕ) (at b k : ℕ) (m : List ℕ) (i : ℕ) → i ≡ k �
 fill_done l at b k m i e q =
     let z : 0 ≡ k - i = omega arith in
     record {
-      bytes = sym (overwrite-none m (at + i)) ∙ ap (λ (n : ℕ). overwrite m (at + i) (replicate n b)) z ∙ q ∙ (λ j. overwrite l (add-zero at j) (replicate (sub-zero k j) b));
+      bytes = sym (overwrite_none m (at + i)) ∙ ap (λ (n : ℕ). overwrite m (at + i) (replicate n b)) z ∙ q ∙ (λ j. overwrite l (add-zero at j) (replicate (sub-zero k j) b));
       after = ap (λ (n : ℕ). at + n) (e ∙ sym (length-replicate k b));
     }
 
@@ -44,7 +44,7 @@ fill_spec =
     (λ c. search rules)
     (λ c. search rules)
     (λ c. search rules)
-    (λ c. (omega arith, simp length-set (omega arith), fill-turn _ _ _ _ _ (search rules) ∙ c.before.loop.invariant.2))
+    (λ c. (omega arith, simp length-set (omega arith), fill_turn _ _ _ _ _ (search rules) ∙ c.before.loop.invariant.2))
     (λ c. search rules)
     (λ c. search rules)
     (λ c. fill_done _ _ _ _ _ _ (omega arith) c.before.loop.invariant.2))

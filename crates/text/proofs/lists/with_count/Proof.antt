@@ -6,8 +6,8 @@ use Rattle.text.specs.Words.{text_of, count_of}
 use Rattle.text.proofs.lists.with_count.Statement.{statement}
 use Rattle.text.proofs.lists.with_count.Tie as tie
 
-pub with-count-spec : {M : Type 1} → statement M
-with-count-spec =
+pub with_count_spec : {M : Type 1} → statement M
+with_count_spec =
     tie.close
     (tie.spec
     (λ c. search rules)

@@ -9,22 +9,22 @@ use native.Mathlib.Omega.{arith}
 use lib.Dec.{ltb}
 use lib.ListN.{length, get_or}
 use Rattle.text.specs.declared.numbers.Hex.TheVariants.{Byte, None}
-use Rattle.text.specs.Words.{digitOf, hexOf}
+use Rattle.text.specs.Words.{digit_of, hex_of}
 use Rattle.text.proofs.numbers.byte_of.Statement.{statement}
 use Rattle.text.proofs.numbers.byte_of.Tie as tie
 
 below : (a b : ℕ) → ltb a 16 && ltb b 16 ≡ true → (a < 16) × (b < 16)
 below a b t = let h = (and-eq-true_iff (ltb a 16) (ltb b 16)).0 t in (ltb-true a 16 h.0, ltb-true b 16 h.1)
 
-module _ (w : List ℕ) (high low : ℕ) (two : length w ≡ 2) (e : high ≡ digitOf (get_or w 0 0)) (f : low ≡ digitOf (get_or w 1 0)) where
-  digits : ltb high 16 && ltb low 16 ≡ true → Byte (16 * high + low) ≡ hexOf w
+module _ (w : List ℕ) (high low : ℕ) (two : length w ≡ 2) (e : high ≡ digit_of (get_or w 0 0)) (f : low ≡ digit_of (get_or w 1 0)) where
+  digits : ltb high 16 && ltb low 16 ≡ true → Byte (16 * high + low) ≡ hex_of w
   digits t = rw (eq-eqb (length w) 2 two, ← e, ← f, t)
 
-  others : ltb high 16 && ltb low 16 ≡ false → None ≡ hexOf w
+  others : ltb high 16 && ltb low 16 ≡ false → None ≡ hex_of w
   others t = rw (eq-eqb (length w) 2 two, ← e, ← f, t)
 
-pub byte-of-spec : {M : Type 1} → statement M
-byte-of-spec =
+pub byte_of_spec : {M : Type 1} → statement M
+byte_of_spec =
     tie.close
     (tie.spec
     (λ c. search rules)

@@ -5,8 +5,8 @@ use native.Mathlib.Omega.{arith}
 use Rattle.text.proofs.numbers.digit.Statement.{statement}
 use Rattle.text.proofs.numbers.digit.Tie as tie
 
-pub digit-spec : {M : Type 1} → statement M
-digit-spec =
+pub digit_spec : {M : Type 1} → statement M
+digit_spec =
     tie.close
     (tie.spec
     (λ c. let b = c.before.args.b in rw (lt-ltb b 48 (omega arith)))

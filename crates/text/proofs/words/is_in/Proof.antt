@@ -3,8 +3,8 @@ use borrow.Author.Rules.{rules}
 use Rattle.text.proofs.words.is_in.Statement.{statement}
 use Rattle.text.proofs.words.is_in.Tie as tie
 
-pub is-in-spec : {M : Type 1} → statement M
-is-in-spec =
+pub is_in_spec : {M : Type 1} → statement M
+is_in_spec =
     tie.close
     (tie.spec
     (λ c. search rules)

@@ -15,8 +15,8 @@ invariant-loop text class at i₀ i = past text class i ≡ past text class at
 abbrev decreases-loop : tie.decreases-loop
 decreases-loop text class at i₀ i = length text - i
 
-pub past-spec : {M : Type 1} → statement M
-past-spec =
+pub past_spec : {M : Type 1} → statement M
+past_spec =
     tie.close
     (tie.spec
     invariant-loop

@@ -4,7 +4,7 @@ use borrow.Author.Tests.{not-true, not-false}
 use mathlib.Core.Path.{sym, ◌∙◌}
 use lib.ListN.{length-map}
 use Rattle.registers.specs.Ranges.{Sized}
-use Rattle.transcript.proofs.Carried.{event-refused, actions-fit, says-size, replies-fit, event-accepted}
+use Rattle.transcript.proofs.Carried.{event_refused, actions_fit, says_size, replies_fit, event_accepted}
 use Rattle.transcript.proofs.events.take_event.Statement.{statement}
 use Rattle.transcript.proofs.events.take_event.Tie as tie
 
@@ -20,8 +20,8 @@ sized s =
       timings = sym (length-map s.args.s.page.timings _) ∙ page.1.1.1.1.1.1.1.1.1.1.0.1.0.1;
     }
 
-pub take-event-spec : {M : Type 1} → statement M
-take-event-spec =
+pub take_event_spec : {M : Type 1} → statement M
+take_event_spec =
     tie.close
     (tie.spec
     (λ c κs. search rules)
@@ -30,17 +30,17 @@ take-event-spec =
     (λ c.
     let p = c.before.before.before in
     let s = p.before.before.before in
-    event-refused s.args.s s.args.event s.args.samples.now s.args.out.now s.requires.0 (sized s) s.requires.1 p.measure.result p.measure.ensures (sym c.before.before.fits2.ensures ∙ not-true _ c.before.if1.true) c.short.ensures)
+    event_refused s.args.s s.args.event s.args.samples.now s.args.out.now s.requires.0 (sized s) s.requires.1 p.measure.result p.measure.ensures (sym c.before.before.fits2.ensures ∙ not-true _ c.before.if1.true) c.short.ensures)
     (λ c κs.
     let p = c.before.before.before.before.before in
     let s = p.before.before.before in
-    (p.measure.ensures.page-small, actions-fit s.args.s s.args.event s.args.samples.now s.args.out.now s.requires.0 (sized s) s.requires.1 p.measure.result p.measure.ensures))
+    (p.measure.ensures.page_small, actions_fit s.args.s s.args.event s.args.samples.now s.args.out.now s.requires.0 (sized s) s.requires.1 p.measure.result p.measure.ensures))
     (λ c κs.
     let p = c.before.before.before.before.before.before.before.before.before in
     let s = p.before.before.before in
-    (p.measure.ensures.state-small, says-size s.args.s s.args.event s.args.samples.now s.args.out.now s.requires.0 (sized s) s.requires.1 p.measure.result p.measure.ensures, replies-fit s.args.s s.args.event s.args.samples.now s.args.out.now s.requires.0 (sized s) s.requires.1 p.measure.result p.measure.ensures c.before.before.before.put-actions.ensures))
+    (p.measure.ensures.state_small, says_size s.args.s s.args.event s.args.samples.now s.args.out.now s.requires.0 (sized s) s.requires.1 p.measure.result p.measure.ensures, replies_fit s.args.s s.args.event s.args.samples.now s.args.out.now s.requires.0 (sized s) s.requires.1 p.measure.result p.measure.ensures c.before.before.before.put-actions.ensures))
     (λ c. search rules)
     (λ c.
     let p = c.before.before.before.before.before.before.before.before.before.before.before.before in
     let s = p.before.before.before in
-    event-accepted s.args.s s.args.event s.args.samples.now s.args.out.now s.requires.0 (sized s) s.requires.1 p.measure.result p.measure.ensures c.before.before.before.before.before.before.put-actions.ensures c.before.before.put-replies.ensures (sym c.before.before.before.before.before.before.before.before.before.before.before.fits2.ensures ∙ not-false _ c.before.before.before.before.before.before.before.before.before.before.if1.false)))
+    event_accepted s.args.s s.args.event s.args.samples.now s.args.out.now s.requires.0 (sized s) s.requires.1 p.measure.result p.measure.ensures c.before.before.before.before.before.before.put-actions.ensures c.before.before.put-replies.ensures (sym c.before.before.before.before.before.before.before.before.before.before.before.fits2.ensures ∙ not-false _ c.before.before.before.before.before.before.before.before.before.before.if1.false)))

@@ -3,8 +3,8 @@ use borrow.Author.Rules.{rules}
 use Rattle.transcript.proofs.output.put_last.Statement.{statement}
 use Rattle.transcript.proofs.output.put_last.Tie as tie
 
-pub put-last-spec : {M : Type 1} → statement M
-put-last-spec =
+pub put_last_spec : {M : Type 1} → statement M
+put_last_spec =
     tie.close
     (tie.spec
     (λ c κs. search rules)

@@ -3,8 +3,8 @@ use borrow.Author.Rules.{rules}
 use Rattle.transcript.proofs.output.put_refusal.Statement.{statement}
 use Rattle.transcript.proofs.output.put_refusal.Tie as tie
 
-pub put-refusal-spec : {M : Type 1} → statement M
-put-refusal-spec =
+pub put_refusal_spec : {M : Type 1} → statement M
+put_refusal_spec =
     tie.close
     (tie.spec
     (λ c κs. search rules)

@@ -9,8 +9,8 @@ invariant-loop actions session text₀ e₀ before₀ at₀ t10 text e before at
 abbrev decreases-loop : tie.decreases-loop
 decreases-loop actions session text₀ e₀ before₀ at₀ t10 text e before at = length actions - at
 
-pub show-event-spec : {M : Type 1} → statement M
-show-event-spec =
+pub show_event_spec : {M : Type 1} → statement M
+show_event_spec =
     tie.close
     (tie.spec
     invariant-loop

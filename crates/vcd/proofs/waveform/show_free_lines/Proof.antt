@@ -9,8 +9,8 @@ invariant-loop actions session e₀ line₀ e line = Unit {0}
 abbrev decreases-loop : tie.decreases-loop
 decreases-loop actions session e₀ line₀ e line = 9 - line
 
-pub show-free-lines-spec : {M : Type 1} → statement M
-show-free-lines-spec =
+pub show_free_lines_spec : {M : Type 1} → statement M
+show_free_lines_spec =
     tie.close
     (tie.spec
     invariant-loop

@@ -10,8 +10,8 @@ invariant-loop name identifier number₀ t4 t5 number = Unit {0}
 abbrev decreases-loop : tie.decreases-loop
 decreases-loop name identifier number₀ t4 t5 number = 56 - number
 
-pub write-bits-spec : {M : Type 1} → statement M
-write-bits-spec =
+pub write_bits_spec : {M : Type 1} → statement M
+write_bits_spec =
     tie.close
     (tie.spec
     invariant-loop

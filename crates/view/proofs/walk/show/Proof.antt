@@ -2,18 +2,18 @@
 use Rattle.std.proofs.Common.{◌≡◌, length, rules}
 use borrow.Author.Tests.{not-true}
 use Rattle.session.specs.Runs.{left}
-use Rattle.transcript.specs.Transcript.{mostOutput}
+use Rattle.transcript.specs.Transcript.{most_output}
 use Rattle.view.proofs.walk.show.Statement.{statement}
 use Rattle.view.proofs.walk.show.Tie as tie
 
 abbrev invariant-loop : tie.invariant-loop
-invariant-loop color session out₀ w₀ out w = mostOutput ≡ length out
+invariant-loop color session out₀ w₀ out w = most_output ≡ length out
 
 abbrev decreases-loop : tie.decreases-loop
 decreases-loop color session out₀ w₀ out w = left session w.cursor
 
-pub show-spec : {M : Type 1} → statement M
-show-spec =
+pub show_spec : {M : Type 1} → statement M
+show_spec =
     tie.close
     (tie.spec
     invariant-loop

@@ -9,8 +9,8 @@ invariant-loop color replies codes i₀ i = i ≤ length replies
 abbrev decreases-loop : tie.decreases-loop
 decreases-loop color replies codes i₀ i = length replies - i
 
-pub say-replies-spec : {M : Type 1} → statement M
-say-replies-spec =
+pub say_replies_spec : {M : Type 1} → statement M
+say_replies_spec =
     tie.close
     (tie.spec
     invariant-loop

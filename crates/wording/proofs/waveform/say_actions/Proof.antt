@@ -9,8 +9,8 @@ invariant-loop actions session sampled n at₀ i₀ at i = n ≡ length actions 
 abbrev decreases-loop : tie.decreases-loop
 decreases-loop actions session sampled n at₀ i₀ at i = n - i
 
-pub say-actions-spec : {M : Type 1} → statement M
-say-actions-spec =
+pub say_actions_spec : {M : Type 1} → statement M
+say_actions_spec =
     tie.close
     (tie.spec
     invariant-loop

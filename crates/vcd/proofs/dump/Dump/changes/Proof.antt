@@ -9,8 +9,8 @@ invariant-loop text₀ d₀ k₀ text d k = length text ≡ length text₀
 abbrev decreases-loop : tie.decreases-loop
 decreases-loop text₀ d₀ k₀ text d k = 15 - k
 
-pub changes-spec : {M : Type 1} → statement M
-changes-spec =
+pub changes_spec : {M : Type 1} → statement M
+changes_spec =
     tie.close
     (tie.spec
     invariant-loop
