@@ -30,7 +30,7 @@ pub fn driven_level(a: Action) -> u8
 }
 
 // An action of a line, and how many microseconds are waited right before it.
-#[derive(Drop)]
+#[derive(Clone, Copy)]
 struct Found {
     action: Action,
     waited: u64,

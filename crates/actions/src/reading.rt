@@ -13,7 +13,7 @@ use wire::{
 // A verb that no action has.
 const NO_VERB: u8 = 0xFF;
 
-#[derive(Drop)]
+#[derive(Clone, Copy)]
 pub struct Action {
     pub verb: u8,
     pub line: u8,

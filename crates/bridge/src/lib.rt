@@ -13,13 +13,13 @@ use refusals::Refusal;
 use registers::{Event, State};
 
 // The bridge that a call takes and hands back: the state of the crates below, by value.
-#[derive(Drop)]
+#[derive(Clone, Copy)]
 pub struct Bridge {
     pub state: State,
 }
 
 // Whether a call was taken.
-#[derive(Drop)]
+#[derive(Clone, Copy)]
 pub enum Outcome {
     Taken,
     Refused(Refusal),
@@ -27,7 +27,7 @@ pub enum Outcome {
 
 // What a call answers: the new bridge, the outcome, the codes that the event returned, and how many samples were used and reply bytes
 // and actions written.
-#[derive(Drop)]
+#[derive(Clone, Copy)]
 pub struct Stepped {
     pub bridge: Bridge,
     pub outcome: Outcome,
@@ -38,7 +38,7 @@ pub struct Stepped {
 }
 
 // What the judge answers.
-#[derive(Drop)]
+#[derive(Clone, Copy)]
 pub enum Judgement {
     Judged(Verdict),
     Refused(Refusal),

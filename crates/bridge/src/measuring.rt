@@ -10,7 +10,7 @@ use signals::Waveform;
 
 // The page and the waveform to write, the samples used, the bytes of the actions, the new state, the codes returned, and the reply
 // with its size.
-#[derive(Drop)]
+#[derive(Clone, Copy)]
 pub struct Measured {
     pub page: Page,
     pub wave: Waveform,

@@ -5,7 +5,7 @@ pub mod decoding;
 use registers::{Bit, PortRegister};
 
 // A command of any section of 01, or what is none.
-#[derive(Drop)]
+#[derive(Clone, Copy)]
 pub enum Command {
     Common(CommonCommand),
     Extended(ExtendedCommand),
@@ -16,14 +16,14 @@ pub enum Command {
 }
 
 // Whether a command is legal, or the code that rejects it.
-#[derive(Drop)]
+#[derive(Clone, Copy)]
 pub enum Legality {
     Legal,
     Rejected(u8),
 }
 
 // The common commands by 001's names.
-#[derive(Drop)]
+#[derive(Clone, Copy)]
 pub enum CommonCommand {
     ResetDevice,
     SelectI2c,
@@ -45,7 +45,7 @@ pub enum CommonCommand {
 }
 
 // The commands after 1D; a pulse takes a bit of a port's latch to a level and back, after a wait by its unit and count.
-#[derive(Drop)]
+#[derive(Clone, Copy)]
 pub enum ExtendedCommand {
     Pulse(PortRegister, Bit, bool, u8, u8),
     SetBit(PortRegister, Bit, bool),
@@ -54,7 +54,7 @@ pub enum ExtendedCommand {
 }
 
 // The commands of I2C; a read carries its answering bit.
-#[derive(Drop)]
+#[derive(Clone, Copy)]
 pub enum I2cCommand {
     SendStart,
     SendStop,
@@ -65,7 +65,7 @@ pub enum I2cCommand {
 }
 
 // The commands of SPI; a load carries whether an exchange follows.
-#[derive(Drop)]
+#[derive(Clone, Copy)]
 pub enum SpiCommand {
     LoadConfig,
     ReadConfig,
@@ -81,7 +81,7 @@ pub enum SpiCommand {
 }
 
 // The commands of 1-Wire.
-#[derive(Drop)]
+#[derive(Clone, Copy)]
 pub enum OneWireCommand {
     SendReset,
     SendByte,

@@ -19,7 +19,7 @@ use registers::{Event, PortRegister, State, Wait};
 use signals::Waveform;
 
 // What an event answers, by name; what depends on samples or on the packet register is filled in when it is written.
-#[derive(Drop)]
+#[derive(Clone, Copy)]
 pub enum Answer {
     Silent,
     Returns(u8),
@@ -38,7 +38,7 @@ pub enum Answer {
 }
 
 // What an event changes of the state, but for what depends on samples; `changed` in the definitions gives each its meaning.
-#[derive(Drop)]
+#[derive(Clone, Copy)]
 pub enum Change {
     Nothing,
     Reset,
@@ -59,7 +59,7 @@ pub enum Change {
 }
 
 // What an event will do, before any sample is read: the change, the waveform and the answer.
-#[derive(Drop)]
+#[derive(Clone, Copy)]
 pub struct Decision {
     pub change: Change,
     pub wave: Waveform,

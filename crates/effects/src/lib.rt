@@ -6,7 +6,7 @@ pub mod sending;
 use registers::State;
 
 // The reply bytes of an event, by name.
-#[derive(Drop)]
+#[derive(Clone, Copy)]
 pub enum Reply {
     Empty,
     One(u8),
@@ -20,7 +20,7 @@ pub enum Reply {
 }
 
 // The codes that an event returned, in their order.
-#[derive(Drop)]
+#[derive(Clone, Copy)]
 pub enum Returned {
     Nothing,
     One(u8),
@@ -28,7 +28,7 @@ pub enum Returned {
 }
 
 // The state that an event leaves, and what it sends.
-#[derive(Drop)]
+#[derive(Clone, Copy)]
 pub struct Responded {
     pub state: State,
     pub reply: Reply,

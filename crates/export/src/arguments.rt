@@ -12,7 +12,7 @@ use state_bytes::decoding;
 use switch_on::Device;
 
 // An event, or why there is none.
-#[derive(Drop)]
+#[derive(Clone, Copy)]
 pub(crate) enum Asked {
     Event(Event),
     Refused(Refusal),

@@ -7,7 +7,7 @@ ghost use Rattle.grammar.specs.Following.{scanner_after, followed, undropped, un
 use crate::{Context, Place, Scanned, Scanner, rows, scanning};
 
 // Where a stream stands: the scanner of its bytes, and whether the next one is dropped.
-#[derive(Drop)]
+#[derive(Clone, Copy)]
 pub struct Stream {
     pub scanner: Scanner,
     pub drop: bool,

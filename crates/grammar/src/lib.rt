@@ -8,7 +8,7 @@ mod rows;
 mod scanning;
 
 // The interface that is selected.
-#[derive(Drop)]
+#[derive(Clone, Copy)]
 pub enum Interface {
     NoInterface,
     I2C,
@@ -17,7 +17,7 @@ pub enum Interface {
 }
 
 // 01's term: the context is the interface, configured or not, and N, the packet's size in bits.
-#[derive(Drop)]
+#[derive(Clone, Copy)]
 pub struct Context {
     pub interface: Interface,
     pub configured: bool,
@@ -25,7 +25,7 @@ pub struct Context {
 }
 
 // What an item does to the context.
-#[derive(Drop)]
+#[derive(Clone, Copy)]
 pub enum ContextChange {
     Keep,
     Clear,
@@ -35,28 +35,28 @@ pub enum ContextChange {
 }
 
 // Where a scanner stands: between items, after 1D, or inside an item with so many bytes to come after the next.
-#[derive(Drop)]
+#[derive(Clone, Copy)]
 pub enum Place {
     Between,
     Extended,
     Inside(ContextChange, u8),
 }
 
-#[derive(Drop)]
+#[derive(Clone, Copy)]
 pub struct Scanner {
     pub context: Context,
     pub place: Place,
 }
 
 // What a scanner makes of a byte: accepted, or rejected with the code that the device returns.
-#[derive(Drop)]
+#[derive(Clone, Copy)]
 pub enum Scanned {
     Accepted(Scanner),
     Rejected(u8),
 }
 
 // The judge's answer: 01's whole, open, or wrong at a place, with the code that the device returns there.
-#[derive(Drop)]
+#[derive(Clone, Copy)]
 pub enum Verdict {
     Whole,
     Open,

@@ -6,7 +6,7 @@ ghost use Rattle.input.specs.Arguments.{Among, split_at_spaces, Tells, is_option
 use libc::{STDERR_FILENO, STDOUT_FILENO};
 
 // What an argument can be, beside a list of options.
-#[derive(Drop)]
+#[derive(Clone, Copy)]
 pub(crate) enum Kind {
     Name,
     Known,

@@ -7,7 +7,7 @@ use arguments::Kind;
 pub use arguments::{goes_on, option};
 
 // The whole input, of so many bytes, or what a full buffer holds of it; or it could not be read.
-#[derive(Drop)]
+#[derive(Clone, Copy)]
 pub enum Input {
     Whole(usize),
     Failed,

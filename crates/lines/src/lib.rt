@@ -13,7 +13,7 @@ pub mod singles;
 
 // What is known of a waveform before anything is written: the byte that its samples give, how many samples it uses, and how many
 // bytes its actions take.
-#[derive(Drop)]
+#[derive(Clone, Copy)]
 pub struct Measured {
     pub byte: u8,
     pub used: usize,

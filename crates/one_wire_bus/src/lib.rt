@@ -14,7 +14,7 @@ const RELEASE: u8 = wire::VERB_RELEASE;
 const SAMPLE: u8 = wire::VERB_SAMPLE_LINE;
 
 // The three waits of a group, in µs; the definitions are about it too.
-#[derive(Drop)]
+#[derive(Clone, Copy)]
 struct Waits {
     first: u16,
     second: u16,

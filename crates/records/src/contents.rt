@@ -13,7 +13,7 @@ const FAULT: usize = 2;
 const SAMPLES: usize = 3;
 
 // A body's events, one a byte, received bytes or a line fault; samples; or a refusal.
-#[derive(Drop)]
+#[derive(Clone, Copy)]
 pub enum Content {
     Events { fault: bool },
     Samples,

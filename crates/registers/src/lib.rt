@@ -23,7 +23,7 @@ pub const HELD: usize = 9;
 
 // The registers: COMMON_FLAGS, ERROR, the port registers, CONFIG_SPI, the configured mark, PAKET_SIZE, the packet register and the
 // timings. Their order here says nothing; it is the one that compiles best.
-#[derive(Drop)]
+#[derive(Clone, Copy)]
 pub struct Page {
     pub flags: u8,
     pub size: u8,
@@ -42,7 +42,7 @@ pub struct Page {
 
 // What is not a register: the EPROM image, the version, the IOG count and the serial number, low byte first. Their order, too, is the one
 // that compiles best.
-#[derive(Drop)]
+#[derive(Clone, Copy)]
 pub struct Shared {
     pub version: u8,
     pub serial: [u8; SERIAL],
@@ -51,7 +51,7 @@ pub struct Shared {
 }
 
 // A port's direction or latch register.
-#[derive(Drop)]
+#[derive(Clone, Copy)]
 pub enum PortRegister {
     Ddrb,
     Portb,
@@ -62,7 +62,7 @@ pub enum PortRegister {
 }
 
 // The bits of a register that commands set and clear.
-#[derive(Drop)]
+#[derive(Clone, Copy)]
 pub enum Bit {
     Three,
     Four,
@@ -70,7 +70,7 @@ pub enum Bit {
 }
 
 // The operand that is waited for, by what it goes to. The order here and in `Wait` says nothing; it is the one that compiles best.
-#[derive(Drop)]
+#[derive(Clone, Copy)]
 pub enum Operand {
     ToPort(PortRegister),
     ToCycles,
@@ -84,7 +84,7 @@ pub enum Operand {
 
 // What the bridge waits for: nothing, one operand, the byte after 1D, or so many more packet or timing bytes; `exchange` says
 // that an exchange follows the packet.
-#[derive(Drop)]
+#[derive(Clone, Copy)]
 pub enum Wait {
     Nothing,
     Timings { left: u8 },
@@ -95,7 +95,7 @@ pub enum Wait {
 
 // The state; `held` has the packet or timing bytes that came in for the wait so far, and `drop` says that a line fault makes the next
 // byte be dropped.
-#[derive(Drop)]
+#[derive(Clone, Copy)]
 pub struct State {
     pub drop: bool,
     pub shared: Shared,
@@ -105,7 +105,7 @@ pub struct State {
 }
 
 // Which of the three a line fault was.
-#[derive(Drop)]
+#[derive(Clone, Copy)]
 pub enum Fault {
     Frame,
     Overrun,
@@ -113,7 +113,7 @@ pub enum Fault {
 }
 
 // 01's term: an event is a received byte, or a line fault.
-#[derive(Drop)]
+#[derive(Clone, Copy)]
 pub enum Event {
     Byte(u8),
     Fault(Fault),

@@ -22,7 +22,7 @@ const SAMPLES: u16 = 3;
 const EXTENDED: u8 = 0x1D;
 
 // What a line says: nothing, so many bytes at the front of a buffer for records of a kind, or what is wrong at a place.
-#[derive(Drop)]
+#[derive(Clone, Copy)]
 pub(crate) enum Parsed {
     Nothing,
     Bytes { kind: u16, size: usize },

@@ -9,7 +9,7 @@ use records::reading::{Record, record_from};
 use refusals::Refusal;
 
 // The first of the events in a body, a body without any, samples, the session's end, or a refusal with its place.
-#[derive(Drop)]
+#[derive(Clone, Copy)]
 pub enum Next {
     Event {
         fault: bool,

@@ -20,7 +20,7 @@ const SAMPLE_LINE: u8 = wire::VERB_SAMPLE_LINE;
 const SAMPLE_PORT: u8 = wire::VERB_SAMPLE_PORT;
 
 // A waveform by name; a port's value is its whole new register.
-#[derive(Drop)]
+#[derive(Clone, Copy)]
 pub enum Waveform {
     Still,
     Reinit,
@@ -61,7 +61,7 @@ pub enum Waveform {
 }
 
 // What the samples give, and how many bytes the actions take.
-#[derive(Drop)]
+#[derive(Clone, Copy)]
 pub struct Sensed {
     pub used: usize,
     pub bytes: usize,

@@ -12,7 +12,7 @@ use refusals::Refusal;
 use registers::{Page, Shared, State, Wait};
 
 // What the device has besides an image: the IOG count, the version and the serial number, low byte first.
-#[derive(Drop)]
+#[derive(Clone, Copy)]
 pub struct Device {
     pub cycles: u8,
     pub version: u8,
@@ -20,14 +20,14 @@ pub struct Device {
 }
 
 // Whether the bridge is on.
-#[derive(Drop)]
+#[derive(Clone, Copy)]
 pub enum Outcome {
     On,
     Refused(Refusal),
 }
 
 // What switch-on answers: the bridge, the outcome, and how many actions were written.
-#[derive(Drop)]
+#[derive(Clone, Copy)]
 pub struct SwitchedOn {
     pub bridge: Bridge,
     pub outcome: Outcome,

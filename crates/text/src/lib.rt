@@ -6,7 +6,7 @@ pub mod place;
 pub mod words;
 
 // What a script was expected to have where it is wrong.
-#[derive(Drop)]
+#[derive(Clone, Copy)]
 pub enum Expected {
     Statement,
     Byte,
@@ -18,21 +18,21 @@ pub enum Expected {
 }
 
 // Why reading stopped: all is read, or something is wrong at a place.
-#[derive(Drop)]
+#[derive(Clone, Copy)]
 pub enum Stop {
     Done,
     Wrong { place: usize, expected: Expected },
 }
 
 // How many bytes of a buffer hold what was read, and why reading stopped.
-#[derive(Drop)]
+#[derive(Clone, Copy)]
 pub struct Assembled {
     pub size: usize,
     pub stop: Stop,
 }
 
 // A line and a column, both from 1.
-#[derive(Drop)]
+#[derive(Clone, Copy)]
 pub struct Position {
     pub line: usize,
     pub column: usize,

@@ -8,7 +8,7 @@ use crate::words::{Word, word_at};
 use crate::{Assembled, Expected, Stop, numbers};
 
 // An item of a list: so many of a byte, with the place after it; the list's end; or what is wrong.
-#[derive(Drop)]
+#[derive(Clone, Copy)]
 pub(crate) enum Item {
     Bytes { byte: u8, count: usize, next: usize },
     End,

@@ -3,7 +3,7 @@ ghost use Rattle.std.specs.Prelude.{◌≡◌};
 ghost use Rattle.text.specs.Words.{digit_of, hex_of, count_of};
 
 // A byte in hex, or none.
-#[derive(Drop)]
+#[derive(Clone, Copy)]
 pub(crate) enum Hex {
     Byte(u8),
     None,

@@ -3,7 +3,7 @@ ghost use Rattle.std.specs.Prelude.{◌≡◌};
 ghost use Rattle.text.specs.Words.{is_in, past, word_at};
 
 // The bytes between words, those of a word, and those of a line.
-#[derive(Drop)]
+#[derive(Clone, Copy)]
 pub enum Class {
     Blank,
     Word,
@@ -11,7 +11,7 @@ pub enum Class {
 }
 
 // A word, from its start to its end; where both are one there is none.
-#[derive(Drop)]
+#[derive(Clone, Copy)]
 pub struct Word {
     pub start: usize,
     pub end: usize,

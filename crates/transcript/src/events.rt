@@ -15,7 +15,7 @@ use registers::{Event, State};
 
 // What an event left: the new state, the samples used and the bytes written, and the codes that it returned. If it was refused,
 // nothing was written, and the state is a fresh one.
-#[derive(Drop)]
+#[derive(Clone, Copy)]
 pub struct Done {
     pub state: State,
     pub used: usize,
@@ -26,7 +26,7 @@ pub struct Done {
 
 // How far the events of a body got: the state, the events taken, the samples used and the bytes written, and whether the next event
 // was refused.
-#[derive(Drop)]
+#[derive(Clone, Copy)]
 pub struct Reach {
     pub state: State,
     pub read: usize,

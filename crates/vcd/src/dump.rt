@@ -13,7 +13,7 @@ const SCK: usize = wire::LINE_SCK as usize;
 // Whether registers are written bit by bit, the level of a line that nobody drives and that of SCK before it is driven, which lines
 // are driven, the variables' values now and as they were last written, the time in microseconds and whether it is written, the place
 // in the session of the next sample, how much text is collected, and whether text could not be written.
-#[derive(Drop)]
+#[derive(Clone, Copy)]
 pub(crate) struct Dump {
     pub(crate) bit_by_bit: bool,
     pub(crate) free: u8,

@@ -10,7 +10,7 @@ use records::reading::joined;
 use session::replay::Cursor;
 
 // Where a comparison stands: the cursor, how many bytes of the stored transcript are left, and whether all were the same.
-#[derive(Drop)]
+#[derive(Clone, Copy)]
 struct Compared {
     cursor: Cursor,
     left: usize,
@@ -18,7 +18,7 @@ struct Compared {
 }
 
 // What a vector shows: whether the transcript is the stored one; at the file's end there is none.
-#[derive(Drop)]
+#[derive(Clone, Copy)]
 enum Shown {
     Compared(bool),
     Nothing,

@@ -12,7 +12,7 @@ pub(crate) const ACTIONS: usize = 0x0102;
 const REFUSAL: usize = 0x01FF;
 
 // A record: its kind, how many bytes its body has, and where it ends; kind 0 where there is none.
-#[derive(Drop)]
+#[derive(Clone, Copy)]
 pub(crate) struct Part {
     pub kind: usize,
     pub size: usize,

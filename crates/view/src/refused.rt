@@ -4,7 +4,7 @@ use records::reading::HEADER;
 use wording::text::{no_color, red, say, say_number, say_words};
 
 // A refusal that the replay wrote; the number 0 says that it wrote none.
-#[derive(Drop)]
+#[derive(Clone, Copy)]
 pub(crate) struct Refused {
     pub number: usize,
     pub place: usize,

@@ -18,7 +18,7 @@ use wording::items::say_wait;
 use wording::text::{finish, say, say_count};
 
 // How much has been shown.
-#[derive(Drop)]
+#[derive(Clone, Copy)]
 struct Shown {
     events: usize,
     replies: usize,
@@ -26,7 +26,7 @@ struct Shown {
 }
 
 // Where the walk stands.
-#[derive(Drop)]
+#[derive(Clone, Copy)]
 struct Walked {
     cursor: Cursor,
     shown: Shown,
