@@ -118,7 +118,9 @@ def main():
                     print(f"{p.relative_to(ROOT)}: {new} stands beside {', '.join(o for o in olds if o in words)}")
         # port.py has respelled some names in .rt and .antt files alone
         older = {w: snake(w) for w in words if plain(w) and w not in turned and snake(w) in known} if p.suffix in (".md", ".edit") else {}
-        here = turned | older | IN_FILES.get(str(p.relative_to(ROOT)), {})
+        here = turned | older
+        if any(w in turned for w in words):
+            here |= IN_FILES.get(str(p.relative_to(ROOT)), {})
         made = "\n".join(respelled(line, here, p.suffix, p.name == "Proof.antt") for line in text.split("\n"))
         if made != text:
             count += 1

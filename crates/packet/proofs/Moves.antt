@@ -8,7 +8,7 @@ use lib.ListN.{length, get_or, take, drop, length-append, length-drop, length-re
 use lib.Seq.{drop-cons, drop-drop, drop-append-le, take-append-le, length-take-le}
 use Rattle.packet.specs.Register.{byte_bits, bits, number, register, zeros}
 use Rattle.packet.specs.Packet.{moved_up}
-use Rattle.packet.specs.Alignment.{bits_up_lem, moves_by_one, bytes_and_rest, Alignment}
+use Rattle.packet.specs.Alignment.{bits_up, moves_by_one, bytes_and_rest, Alignment}
 use Rattle.packet.proofs.Bytes.{Bits, bits_join, bits_drop, bits_take, bits_small, bits_zeros, bits_append, bits_register, length_bits, length_register, number_parts, number_pair}
 use Rattle.packet.proofs.Filled.{register_at, drop_bytes, drop_take}
 
@@ -32,24 +32,24 @@ unfolding moved_up
 not_moved bs = append-nil bs
 
 -- a register that is not moved is itself
-pub none_up : (k : ℕ) (r : List ℕ) → register k (bits r) ≡ r → bits_up_lem k 0 r ≡ r
+pub none_up : (k : ℕ) (r : List ℕ) → register k (bits r) ≡ r → bits_up k 0 r ≡ r
 none_up k r e = ap (register k) (not_moved (bits r)) ∙ e
 
-bits_up_lem : (k m : ℕ) (r : List ℕ) → length r ≡ k → bits (bits_up_lem k m r) ≡ moved_up m (bits r)
+bits_up_lem : (k m : ℕ) (r : List ℕ) → length r ≡ k → bits (bits_up k m r) ≡ moved_up m (bits r)
 unfolding moved_up
 bits_up_lem k m r l =
     let bs = bits r ++ zeros m in
     let n : length bs ≡ 8 * k + m = omega (arith, length_padded (bits r) m, length_bits r) in
     bits_register k (drop m bs) (omega (arith, length-drop m bs)) (bits_drop m bs (bits_join (bits r) (zeros m) (bits_small r) (bits_zeros m)))
 
-single : (k m : ℕ) (r : List ℕ) → register k (bits r) ≡ r → moves_by_one k m r ≡ bits_up_lem k m r
+single : (k m : ℕ) (r : List ℕ) → register k (bits r) ≡ r → moves_by_one k m r ≡ bits_up k m r
 unfolding moves_by_one
 single k zero r e = sym (none_up k r e)
 single k (suc m) r e =
     let l : length r ≡ k = ap length (sym e) ∙ length_register k (bits r) in
     let s : m + 1 ≡ suc m = omega arith in
-    ap (bits_up_lem k 1) (single k m r e) ∙ ap (λ (bs : List ℕ). register k (moved_up 1 bs)) (bits_up_lem k m r l) ∙ ap (register k) (moves_add m 1 (bits r))
-    ∙ ap (λ (i : ℕ). bits_up_lem k i r) s
+    ap (bits_up k 1) (single k m r e) ∙ ap (λ (bs : List ℕ). register k (moved_up 1 bs)) (bits_up_lem k m r l) ∙ ap (register k) (moves_add m 1 (bits r))
+    ∙ ap (λ (i : ℕ). bits_up k i r) s
 
 -- WHOLE BYTES
 
@@ -67,12 +67,12 @@ bytes_up : (c : ℕ) (r : List ℕ) → bits (moved_up c r) ≡ moved_up (8 * c)
 unfolding moved_up
 bytes_up c r = sym (drop_bytes c (r ++ zeros c)) ∙ ap (drop (8 * c)) (more_bytes r c)
 
-whole : (k m : ℕ) (r : List ℕ) → bytes_and_rest k m r ≡ bits_up_lem k m r
+whole : (k m : ℕ) (r : List ℕ) → bytes_and_rest k m r ≡ bits_up k m r
 whole k m r =
     let e : 8 * (m / 8) + m % 8 ≡ m = omega arith in
     ap (λ (bs : List ℕ). register k (moved_up (m % 8) bs)) (bytes_up (m / 8) r)
     ∙ ap (register k) (moves_add (8 * (m / 8)) (m % 8) (bits r))
-    ∙ ap (λ (i : ℕ). bits_up_lem k i r) e
+    ∙ ap (λ (i : ℕ). bits_up k i r) e
 
 pub alignment_right : (w n : ℕ) (r : List ℕ) → Alignment w n r
 alignment_right w n r = record {
@@ -126,7 +126,7 @@ across s j r h l =
 -- a byte has its bits from the one m / 8 bytes below it and the next
 pub byte_up : (k m j : ℕ) (r : List ℕ) {upper lower : ℕ} → length r ≡ k → j < k → upper < 256 → lower < 256
     → upper ≡ get_or r (j + m / 8) 0 → lower ≡ get_or r (suc (j + m / 8)) 0
-    → (upper * 256 + lower) / 2 ^ (8 - m % 8) % 256 ≡ get_or (bits_up_lem k m r) j 0
+    → (upper * 256 + lower) / 2 ^ (8 - m % 8) % 256 ≡ get_or (bits_up k m r) j 0
 unfolding moved_up
 byte_up k m j r {upper} {lower} l h hu hl u v =
     let c = suc (m / 8) in
