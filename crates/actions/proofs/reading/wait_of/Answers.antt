@@ -1,0 +1,20 @@
+-- Verb by verb.
+use borrow.Author.Rules.{rules}
+use borrow.Author.Tests.{ne_eqb}
+use Rattle.actions.proofs.reading.wait_of.Goals as goal
+
+pub returns-in-4 : goal.returns-in-4
+returns-in-4 c =
+    rw c.in-4.is
+
+pub returns-in-8 : goal.returns-in-8
+returns-in-8 c =
+    rw c.in-8.is
+
+pub returns-in-9 : goal.returns-in-9
+returns-in-9 c =
+    rw c.in-9.is
+
+pub returns-in_default : goal.returns-in_default
+returns-in_default c =
+    rw (ne_eqb _ _ c.in_default.in_default-own.rest.0.0.1, ne_eqb _ _ c.in_default.in_default-own.rest.0.1, ne_eqb _ _ c.in_default.in_default-own.rest.1)

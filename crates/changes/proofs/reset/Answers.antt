@@ -1,0 +1,7 @@
+-- The flags kept are those of the definition.
+use borrow.Author.Rules.{rules}
+use Rattle.changes.proofs.reset.Goals as goal
+
+pub returns : goal.returns
+returns c =
+    rw (← c.kept_flags-kept.ensures.0) c.reinit.ensures

@@ -1,0 +1,7 @@
+-- The image is stored in the shared part alone.
+use borrow.Author.Rules.{rules}
+use Rattle.changes.proofs.save.Goals as goal
+
+pub returns : goal.returns
+returns c =
+    rw c.image-bytes.ensures

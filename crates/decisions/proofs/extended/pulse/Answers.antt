@@ -1,0 +1,7 @@
+-- The latch keeps the last level.
+use borrow.Author.Rules.{rules}
+use Rattle.decisions.proofs.extended.pulse.Goals as goal
+
+pub returns : goal.returns
+returns c =
+    rw (← c.port_register.ensures, ← c.with_bit-first.ensures, ← c.with_bit-last.ensures, ← c.port_line-line.ensures) c.storing.ensures

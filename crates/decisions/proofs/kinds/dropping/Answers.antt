@@ -1,0 +1,7 @@
+-- No change, no waveform and no answer.
+use borrow.Author.Rules.{rules}
+use Rattle.decisions.proofs.kinds.dropping.Goals as goal
+
+pub returns : goal.returns
+returns c =
+    c.deciding.ensures

@@ -1,0 +1,7 @@
+-- The state of the bytes, and the numbers as they are.
+use borrow.Author.Rules.{rules}
+use Rattle.export.proofs.arguments.cursor_of.Goals as goal
+
+pub returns : goal.returns
+returns c =
+    rw c.state_of-s.ensures

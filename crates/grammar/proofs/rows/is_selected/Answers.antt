@@ -1,0 +1,7 @@
+-- Interfaces are the same where their numbers are.
+use borrow.Author.Rules.{rules}
+use Rattle.grammar.proofs.rows.is_selected.Goals as goal
+
+pub returns : goal.returns
+returns c =
+    rw (c.interface_number.ensures, c.interface_number-2.ensures)

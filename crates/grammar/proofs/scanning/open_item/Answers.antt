@@ -1,0 +1,23 @@
+-- By whether the byte is legal, and whether it is 1D between items.
+use borrow.Author.Rules.{rules}
+use borrow.Author.Tests.{not-true, not-false}
+use mathlib.Core.Path.{sym, ap, ◌∙◌}
+use Rattle.grammar.specs.Scanner.{Accepted}
+use Rattle.grammar.specs.Following.{opening_in}
+use Rattle.grammar.proofs.Scans.{rejected, opens, opens_none, accepted}
+use Rattle.grammar.proofs.scanning.open_item.Goals as goal
+
+pub returns-then-not-is_legal : goal.returns-then-not-is_legal
+returns-then-not-is_legal c =
+    let a = c.args in
+    rejected (opening_in a.b a.extended) a.c a.b _ (sym c.is_legal.ensures ∙ not-true _ c.if-not-is_legal.true) c.code_for.ensures
+
+pub returns-then-b-extended : goal.returns-then-b-extended
+returns-then-b-extended c =
+    let a = c.args in opens a.b a.extended a.c c.if-b-extended.true
+
+pub returns : goal.returns
+returns c =
+    let a = c.args in
+    ap Accepted c.advance.ensures
+    ∙ accepted (opening_in a.b a.extended) a.c a.b _ _ (sym c.is_legal.ensures ∙ not-false _ c.if-not-is_legal.false) (opens_none a.b a.extended c.if-b-extended.false) c.operands_of-n.ensures c.change_of-e.ensures

@@ -1,0 +1,17 @@
+-- The loop's invariant: what writing the rows of the bits that are left leaves is what writing all of them leaves.
+use borrow.Author.Rules.{rules}
+use Prim.Native.Nat.{◌-◌, ◌≤◌}
+use native.Mathlib.Omega.{arith}
+use lib.ListN.{length}
+use Rattle.packet.specs.Register.{byte_bits}
+use Rattle.packet.proofs.Bytes.{length_byte}
+use Rattle.packet.proofs.Bytes.{byte_at}
+use Rattle.i2c_bus.specs.I2c.{i2c_bit}
+use Rattle.lines.proofs.Rows.{Owed, owed_all, owed_within, owed_fits, owed_turn, owed_none}
+use Rattle.i2c_bus.proofs.put_bits.Given as goal
+
+abbrev pub invariant-loop-i : goal.invariant-loop-i
+invariant-loop-i l = (l.i ≤ 8) × (l.at ≤ length l.out) × Owed i2c_bit (byte_bits l.byte) l.initial.out 0 l.i l.out l.at
+
+abbrev pub decreases-loop-i : goal.decreases-loop-i
+decreases-loop-i l = 8 - l.i

@@ -1,0 +1,18 @@
+-- The loop's invariant: what writing the rows that are left leaves is what writing all of them leaves.
+use borrow.Author.Rules.{rules}
+use mathlib.Core.Path.{refl}
+use mathlib.Core.List.{List}
+use Prim.Native.Nat.{ℕ, ◌-◌, ◌≤◌}
+use native.Mathlib.Omega.{arith}
+use lib.ListN.{length}
+use Rattle.wire.specs.Action.{Action}
+use Rattle.packet.specs.Register.{zeros}
+use Rattle.i2c_bus.specs.I2c.{i2c_sampled}
+use Rattle.lines.proofs.Rows.{Owed, owed_all, owed_within, owed_fits, owed_turn, owed_none}
+use Rattle.i2c_bus.proofs.put_samples.Given as goal
+
+abbrev pub invariant-loop-i : goal.invariant-loop-i
+invariant-loop-i l = (l.i ≤ 8) × (l.at ≤ length l.out) × Owed row (zeros 8) l.initial.out 0 l.i l.out l.at
+
+abbrev pub decreases-loop-i : goal.decreases-loop-i
+decreases-loop-i l = 8 - l.i

@@ -1,0 +1,12 @@
+-- One after the other.
+use borrow.Author.Rules.{rules}
+use Rattle.packet.specs.Register.{byte_bits}
+use Rattle.lines.specs.Lines.{for_each}
+use Rattle.i2c_bus.specs.I2c.{i2c_bit, i2c_sampled}
+use Rattle.lines.proofs.Rows.{joined}
+use Rattle.i2c_bus.proofs.put_write.Goals as goal
+
+pub returns : goal.returns
+unfolding for_each byte_bits
+returns c =
+    joined (for_each i2c_bit (byte_bits c.args.byte)) i2c_sampled c.put_bits-at.ensures c.put_sampled.ensures

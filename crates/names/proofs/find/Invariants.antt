@@ -1,0 +1,16 @@
+-- The first row from here on is the first row of all.
+use borrow.Author.Rules.{rules}
+use Prim.Native.Nat.{ℕ, ◌≤◌, ◌-◌}
+use mathlib.Core.Path.{◌≡◌, refl, sym, ap, ◌∙◌}
+use mathlib.Core.Bool.{Bool, ◌&&◌, beq}
+use lib.Dec.{eqb}
+use lib.ListN.{get_or, drop}
+use Rattle.names.specs.Names.{codes, is_extended, first_where, has_code, row_coded}
+use Rattle.names.proofs.Rows.{found_here, passed_over}
+use Rattle.names.proofs.find.Given as goal
+
+abbrev pub invariant-loop-row : goal.invariant-loop-row
+invariant-loop-row l = (l.row ≤ 74) × (first_where (has_code l.code l.is_extended) l.row (drop l.row codes) ≡ row_coded l.code l.is_extended)
+
+abbrev pub decreases-loop-row : goal.decreases-loop-row
+decreases-loop-row l = 74 - l.row

@@ -1,0 +1,40 @@
+-- The goals that the search leaves.
+use borrow.Author.Rules.{rules}
+use mathlib.Core.List.{List}
+use Prim.Native.Nat.{ℕ, ◌-◌, ◌≤◌}
+use native.Mathlib.Omega.{arith}
+use lib.ListN.{length, take}
+use Rattle.wire.specs.Action.{Action, release}
+use Rattle.one_wire_bus.specs.OneWire.{write_slot, low_first}
+use Rattle.one_wire_bus.specs.declared.Waits.{Waits}
+use Rattle.lines.proofs.Rows.{Owed, owed_all, owed_within, owed_fits, owed_turn, owed_none}
+use Rattle.one_wire_bus.proofs.Slots.{low_taken, length_low}
+use Rattle.one_wire_bus.proofs.put_bits.Goals as goal
+
+abbrev row : Waits → ℕ → List Action
+row w = write_slot w release
+
+pub loop-i-init : goal.loop-i-init
+loop-i-init c =
+    (omega arith, omega arith, owed_all _ _ _ _)
+
+pub put_slot-k-requires : goal.put_slot-k-requires
+put_slot-k-requires c =
+    let n = c.args.n in
+    let byte = c.args.byte in
+    owed_fits (row c.args.w) (take n (low_first byte)) c.loop-i.invariant.2 (omega (arith, length_low n byte (omega (arith, c.requires.0)))) (low_taken n byte c.loop-i.i (search rules) (omega (arith, c.requires.0))) c.requires.1
+
+pub loop-i-preserved : goal.loop-i-preserved
+loop-i-preserved c =
+    let n = c.args.n in
+    let byte = c.args.byte in
+    let o = owed_turn (row c.args.w) (take n (low_first byte)) c.loop-i.invariant.2 (omega (arith, length_low n byte (omega (arith, c.requires.0)))) (low_taken n byte c.loop-i.i (search rules) (omega (arith, c.requires.0))) (rw c.verb_for-verb.ensures at c.put_slot-k.ensures) in
+    (omega arith, owed_within o c.requires.1, o)
+
+pub shape_of-out : goal.shape_of-out
+shape_of-out c =
+    c.loop-i.invariant.2.size
+
+pub returns : goal.returns
+returns c =
+    owed_none (row c.args.w) _ c.loop-i.invariant.2 (omega (arith, length_low c.args.n c.args.byte (omega (arith, c.requires.0))))

@@ -1,0 +1,7 @@
+-- Only where high is set is anything moved.
+use borrow.Author.Rules.{rules}
+use Rattle.packet.proofs.align.Goals as goal
+
+pub returns-then-high : goal.returns-then-high
+returns-then-high c =
+    rw c.if-high.true c.raise.ensures

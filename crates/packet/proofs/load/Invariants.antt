@@ -1,0 +1,17 @@
+-- The loop's invariant: the bytes filled, and those that are to come, make the register.
+use borrow.Author.Rules.{rules}
+use mathlib.Core.Path.{◌≡◌, refl, sym, ap, ◌∙◌}
+use mathlib.Core.List.{◌++◌, append-nil}
+use Prim.Native.Nat.{ℕ, ◌+◌, ◌-◌, ◌≤◌}
+use native.Mathlib.Omega.{arith}
+use lib.ListN.{length, take, set, length-set}
+use lib.Seq.{take_all}
+use Rattle.packet.specs.Packet.{register_bytes, from_held}
+use Rattle.packet.proofs.Loads.{load_turn}
+use Rattle.packet.proofs.load.Given as goal
+
+abbrev pub invariant-loop-i : goal.invariant-loop-i
+invariant-loop-i l = (l.i ≤ register_bytes) × (length l.q ≡ register_bytes) × (take l.i l.q ++ from_held (register_bytes - l.i) l.held ≡ from_held register_bytes l.held)
+
+abbrev pub decreases-loop-i : goal.decreases-loop-i
+decreases-loop-i l = register_bytes - l.i

@@ -1,0 +1,8 @@
+-- By the order.
+use borrow.Author.Rules.{rules}
+use native.Mathlib.Omega.{arith}
+use Rattle.packet.proofs.place_of.Goals as goal
+
+pub returns : goal.returns
+returns c =
+    (rw c.if-high.false, omega (arith, c.requires))

@@ -1,0 +1,7 @@
+-- The interfaces are counted by their function, the rest is tested here.
+use borrow.Author.Rules.{rules}
+use Rattle.registers.proofs.page_fits.Goals as goal
+
+pub returns : goal.returns
+returns c =
+    rw c.selected_count.ensures

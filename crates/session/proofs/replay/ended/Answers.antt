@@ -1,0 +1,7 @@
+-- The start, but done.
+use borrow.Author.Rules.{rules}
+use Rattle.session.proofs.replay.ended.Goals as goal
+
+pub returns : goal.returns
+returns c =
+    rw c.start-cursor.ensures

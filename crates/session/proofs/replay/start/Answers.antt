@@ -1,0 +1,7 @@
+-- The bridge of the factory start.
+use borrow.Author.Rules.{rules}
+use Rattle.session.proofs.replay.start.Goals as goal
+
+pub returns : goal.returns
+returns c =
+    rw c.factory_start-bridge.ensures

@@ -1,0 +1,7 @@
+-- What is measured, and the packet register.
+use borrow.Author.Rules.{rules}
+use Rattle.signals.proofs.sense.Goals as goal
+
+pub returns : goal.returns
+returns c =
+    rw (c.measure-m.ensures, c.packet_after-packet.ensures)

@@ -1,0 +1,7 @@
+-- Part by part.
+use borrow.Author.Rules.{rules}
+use Rattle.state_bytes.proofs.decoding.shared.Goals as goal
+
+pub returns : goal.returns
+returns c =
+    rw (c.serial_at-serial.ensures, c.eprom_at-eprom.ensures)

@@ -1,0 +1,9 @@
+-- Part by part.
+use borrow.Author.Rules.{rules}
+use Rattle.state_bytes.specs.StateBytes.{state_in}
+use Rattle.state_bytes.proofs.decoding.state_of.Goals as goal
+
+pub returns : goal.returns
+unfolding state_in
+returns c =
+    rw (c.held_at-held.ensures, c.wait_of-wait.ensures, c.shared-shared.ensures, c.page-page.ensures)

@@ -1,0 +1,7 @@
+-- The state is all zero.
+use borrow.Author.Rules.{rules}
+use Rattle.switch_on.proofs.refused.Goals as goal
+
+pub returns : goal.returns
+returns c =
+    rw c.zero-s.ensures

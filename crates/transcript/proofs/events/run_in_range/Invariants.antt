@@ -1,0 +1,14 @@
+-- Event after event while there is room.
+use borrow.Author.Rules.{rules}
+use native.Mathlib.Omega.{arith}
+use Prim.Native.Nat.{◌-◌}
+use lib.ListN.{length-take, length-drop}
+use Rattle.records.specs.Contents.{events_of}
+use Rattle.transcript.proofs.Reaching.{Reaching, same, body_first, reached_end, more, within, roomy, in_range, body_used, body_written, body_step, body_same, body_refused}
+use Rattle.transcript.proofs.events.run_in_range.Given as goal
+
+abbrev pub invariant-loop-read : goal.invariant-loop-read
+invariant-loop-read l = Reaching l.most l.initial.state (events_of l.fault l.body) l.samples l.initial.out l.out l.state l.read l.used l.written
+
+abbrev pub decreases-loop-read : goal.decreases-loop-read
+decreases-loop-read l = l.most - l.read

@@ -1,0 +1,7 @@
+-- The number and the place, low bytes first.
+use borrow.Author.Rules.{rules}
+use Rattle.transcript.proofs.output.put_refusal.Goals as goal
+
+pub returns : goal.returns
+returns c =
+    rw (← c.number-n.ensures) c.put_record.ensures

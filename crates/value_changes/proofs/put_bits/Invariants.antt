@@ -1,0 +1,17 @@
+-- What the bits left add is what all of them add.
+use borrow.Author.Rules.{rules}
+use Prim.Native.Nat.{◌-◌}
+use mathlib.Core.Path.{◌≡◌, refl, sym, ◌∙◌}
+use native.Mathlib.Omega.{arith}
+use lib.ListN.{length}
+use Rattle.value_changes.specs.Collected.{collect_all}
+use Rattle.value_changes.specs.Rows.{bit_rows}
+use Rattle.value_changes.proofs.Collecting.{bits_from, no_bits}
+use Rattle.value_changes.proofs.put_bits.Given as goal
+
+abbrev pub invariant-loop-number : goal.invariant-loop-number
+invariant-loop-number l =
+    (length l.text ≡ length l.initial.text) × (collect_all (l.text, l.end) (bit_rows (0x38 - l.number) l.number l.before l.after l.identifier) ≡ collect_all (l.initial.text, l.used) (bit_rows 8 0x30 l.old l.new l.identifier))
+
+abbrev pub decreases-loop-number : goal.decreases-loop-number
+decreases-loop-number l = 0x38 - l.number
