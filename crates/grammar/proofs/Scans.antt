@@ -146,7 +146,7 @@ module _ (bs : List ℕ) (g₀ : Scanner) (c : Context) (b : ℕ) (x : Bool) (i 
   entered n e q h m f = read_next bs g₀ _ _ i l (here (accepted (opening_in b x) c b n e q (opens_none b x h) m f)) r
 
   pub turn_open : (n : ℕ) → accepts (opening_in b x) c ≡ true → eqb b 0x1D && not x ≡ false → n ≡ operands_in c b x → length bs ≤ i + n → Open ≡ verdict (scan_all g₀ bs)
-  turn_open n q h m s = read_short bs g₀ _ n b c i l s (entered n (change_of (opening_in b x)) q h m refl)
+  turn_open n q h m s = read_short bs g₀ (change_of (opening_in b x)) n b c i l s (entered n (change_of (opening_in b x)) q h m refl)
 
   pub turn_item : (n : ℕ) (e : ContextChange) (d : Context) → accepts (opening_in b x) c ≡ true → eqb b 0x1D && not x ≡ false → n ≡ operands_in c b x → e ≡ change_of (opening_in b x)
       → i + n < length bs → d ≡ context_after e (get_or bs (i + n) 0) c → ReadTo bs g₀ (standing d false) (i + (n + 1))

@@ -16,7 +16,7 @@ loop-i-init c =
 pub returns-then-not-is_legal : goal.returns-then-not-is_legal
 returns-then-not-is_legal c =
     let s = c.loop-i in
-    turn_wrong c.args.bytes.now _ s.at _ s.extended s.i c.loop-i-test.true refl s.invariant.1 (sym c.is_legal.ensures ∙ not-true _ c.if-not-is_legal.true) _ c.code_for-code.ensures
+    turn_wrong c.args.bytes.now _ s.at _ s.extended s.i c.loop-i-test.true refl s.invariant.1 (sym c.is_legal.ensures ∙ c.if-not-is_legal.true) _ c.code_for-code.ensures
 
 pub loop-i-preserved-then-b-extended : goal.loop-i-preserved-then-b-extended
 loop-i-preserved-then-b-extended c =
@@ -28,13 +28,13 @@ loop-i-preserved-then-b-extended c =
 pub returns-then-bytes-i : goal.returns-then-bytes-i
 returns-then-bytes-i c =
     let s = c.loop-i in
-    turn_open c.args.bytes.now _ s.at _ s.extended s.i c.loop-i-test.true refl s.invariant.1 _ (sym c.is_legal.ensures ∙ not-false _ c.if-not-is_legal.false) c.if-b-extended.false c.operands_of-n.ensures (omega arith)
+    turn_open c.args.bytes.now _ s.at _ s.extended s.i c.loop-i-test.true refl s.invariant.1 _ (sym c.is_legal.ensures ∙ c.if-not-is_legal.false) c.if-b-extended.false c.operands_of-n.ensures (omega arith)
 
 pub loop-i-preserved : goal.loop-i-preserved
 loop-i-preserved c =
     let s = c.loop-i in (
       search rules,
-      turn_item c.args.bytes.now _ s.at _ s.extended s.i c.loop-i-test.true refl s.invariant.1 _ _ _ (sym c.is_legal.ensures ∙ not-false _ c.if-not-is_legal.false) c.if-b-extended.false c.operands_of-n.ensures c.change_of.ensures (omega arith) c.context_after-at.ensures,
+      turn_item c.args.bytes.now _ s.at _ s.extended s.i c.loop-i-test.true refl s.invariant.1 _ _ _ (sym c.is_legal.ensures ∙ c.if-not-is_legal.false) c.if-b-extended.false c.operands_of-n.ensures c.change_of.ensures (omega arith) c.context_after-at.ensures,
     )
 
 pub returns-then-extended : goal.returns-then-extended

@@ -9,10 +9,8 @@ use Rattle.wire.specs.Action.{Action}
 use Rattle.packet.specs.Register.{zeros}
 use Rattle.i2c_bus.specs.I2c.{i2c_sampled}
 use Rattle.lines.proofs.Rows.{Owed, owed_all, owed_within, owed_fits, owed_turn, owed_none}
+use Rattle.i2c_bus.proofs.put_samples.Invariants.{row}
 use Rattle.i2c_bus.proofs.put_samples.Goals as goal
-
-abbrev row : ℕ → List Action
-row x = i2c_sampled
 
 pub loop-i-init : goal.loop-i-init
 loop-i-init c =

@@ -11,6 +11,9 @@ use Rattle.i2c_bus.specs.I2c.{i2c_sampled}
 use Rattle.lines.proofs.Rows.{Owed, owed_all, owed_within, owed_fits, owed_turn, owed_none}
 use Rattle.i2c_bus.proofs.put_samples.Given as goal
 
+abbrev pub row : ℕ → List Action
+row x = i2c_sampled
+
 abbrev pub invariant-loop-i : goal.invariant-loop-i
 invariant-loop-i l = (l.i ≤ 8) × (l.at ≤ length l.out) × Owed row (zeros 8) l.initial.out 0 l.i l.out l.at
 

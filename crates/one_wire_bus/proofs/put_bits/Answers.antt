@@ -9,10 +9,8 @@ use Rattle.one_wire_bus.specs.OneWire.{write_slot, low_first}
 use Rattle.one_wire_bus.specs.declared.Waits.{Waits}
 use Rattle.lines.proofs.Rows.{Owed, owed_all, owed_within, owed_fits, owed_turn, owed_none}
 use Rattle.one_wire_bus.proofs.Slots.{low_taken, length_low}
+use Rattle.one_wire_bus.proofs.put_bits.Invariants.{row}
 use Rattle.one_wire_bus.proofs.put_bits.Goals as goal
-
-abbrev row : Waits → ℕ → List Action
-row w = write_slot w release
 
 pub loop-i-init : goal.loop-i-init
 loop-i-init c =

@@ -11,6 +11,9 @@ use Rattle.lines.proofs.Rows.{Owed, owed_all, owed_within, owed_fits, owed_turn,
 use Rattle.one_wire_bus.proofs.Slots.{low_taken, length_low}
 use Rattle.one_wire_bus.proofs.put_bits.Given as goal
 
+abbrev pub row : Waits → ℕ → List Action
+row w = write_slot w release
+
 abbrev pub invariant-loop-i : goal.invariant-loop-i
 invariant-loop-i l = (l.i ≤ l.n) × (l.at ≤ length l.out) × Owed (row l.w) (take l.n (low_first l.byte)) l.initial.out 0 l.i l.out l.at
 

@@ -11,10 +11,8 @@ use Rattle.packet.specs.Register.{zeros}
 use Rattle.one_wire_bus.specs.OneWire.{sample_slot, read_slots}
 use Rattle.one_wire_bus.specs.declared.Waits.{Waits}
 use Rattle.lines.proofs.Rows.{Owed, owed_all, owed_within, owed_fits, owed_turn, owed_none, same_written, same_room}
+use Rattle.one_wire_bus.proofs.put_read.Invariants.{row}
 use Rattle.one_wire_bus.proofs.put_read.Goals as goal
-
-abbrev row : Waits → ℕ → List Action
-row w x = sample_slot w
 
 pub loop-i-init : goal.loop-i-init
 loop-i-init c =

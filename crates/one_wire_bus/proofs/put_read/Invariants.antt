@@ -13,6 +13,9 @@ use Rattle.one_wire_bus.specs.declared.Waits.{Waits}
 use Rattle.lines.proofs.Rows.{Owed, owed_all, owed_within, owed_fits, owed_turn, owed_none, same_written, same_room}
 use Rattle.one_wire_bus.proofs.put_read.Given as goal
 
+abbrev pub row : Waits → ℕ → List Action
+row w x = sample_slot w
+
 abbrev pub invariant-loop-i : goal.invariant-loop-i
 invariant-loop-i l = (l.i ≤ 8) × (l.at ≤ length l.out) × Owed (row l.w) (zeros 8) l.initial.out 0 l.i l.out l.at
 

@@ -14,47 +14,61 @@ use Rattle.one_wire_bus.proofs.Slots.{low_at}
 use Rattle.one_wire_bus.proofs.put_write.Goals as goal
 use Rattle.one_wire_bus.proofs.put_write.Goals.{After-write_waits-w}
 
+-- the slots but the last, and the last, with the waits at hand
+abbrev first : After-write_waits-w → List Action
+first g = for_each (write_slot g.write_waits-w.result release) (take (g.args.n - 1) (low_first g.args.byte))
+
+abbrev last : After-write_waits-w → List Action
+last g = write_slot g.write_waits-w.result g.args.fifth (get_or (low_first g.args.byte) (g.args.n - 1) 0)
+
 -- both fit
-all_fit : (c : After-write_waits-w) → length (bytes_of (first c ++ last c)) ≤ length c.args.out.now
+all_fit : (g : After-write_waits-w) → length (bytes_of (first g ++ last g)) ≤ length g.args.out.now
 unfolding write_slots
-all_fit c = same_room (ap (λ (w : Waits). bytes_of (write_slots w c.args.n c.args.fifth c.args.byte)) (sym c.write_waits-w.ensures)) c.requires.1
+all_fit g = same_room (ap (λ (w : Waits). bytes_of (write_slots w g.args.n g.args.fifth g.args.byte)) (sym g.write_waits-w.ensures)) g.requires.1
 
 pub put_bits-at-requires : goal.put_bits-at-requires
 unfolding write_slots
 put_bits-at-requires c =
-    (omega (arith, c.requires.0.0, c.requires.0.1), first_fits (first c) (last c) (all_fit (goal.at.put_bits-at-requires c).After-write_waits-w))
+    let g = (goal.at.put_bits-at-requires c).After-write_waits-w in
+    (omega (arith, c.requires.0.0, c.requires.0.1), first_fits (first g) (last g) (all_fit g))
 
 pub slice_bounds-put_slot-count : goal.slice_bounds-put_slot-count
 unfolding write_slots
 slice_bounds-put_slot-count c =
-    omega (arith, second_within (first c) (last c) (all_fit (goal.at.slice_bounds-put_slot-count c).After-write_waits-w) c.put_bits-at.ensures)
+    let g = (goal.at.slice_bounds-put_slot-count c).After-write_waits-w in
+    omega (arith, second_within (first g) (last g) (all_fit g) c.put_bits-at.ensures)
 
 pub slice_bounds-put_slot-start : goal.slice_bounds-put_slot-start
 unfolding write_slots
 slice_bounds-put_slot-start c =
-    omega (arith, second_within (first c) (last c) (all_fit (goal.at.slice_bounds-put_slot-start c).After-write_waits-w) c.put_bits-at.ensures)
+    let g = (goal.at.slice_bounds-put_slot-start c).After-write_waits-w in
+    omega (arith, second_within (first g) (last g) (all_fit g) c.put_bits-at.ensures)
 
 pub slice_bounds-put_slot-end : goal.slice_bounds-put_slot-end
 unfolding write_slots
 slice_bounds-put_slot-end c =
-    omega (arith, second_within (first c) (last c) (all_fit (goal.at.slice_bounds-put_slot-end c).After-write_waits-w) c.put_bits-at.ensures)
+    let g = (goal.at.slice_bounds-put_slot-end c).After-write_waits-w in
+    omega (arith, second_within (first g) (last g) (all_fit g) c.put_bits-at.ensures)
 
 pub put_slot-requires : goal.put_slot-requires
 unfolding write_slots
 put_slot-requires c =
-    second_fits (first c) (last c) (all_fit (goal.at.put_slot-requires c).After-write_waits-w) c.put_bits-at.ensures
+    let g = (goal.at.put_slot-requires c).After-write_waits-w in
+    second_fits (first g) (last g) (all_fit g) c.put_bits-at.ensures
 
 pub overflow_add-result : goal.overflow_add-result
 unfolding write_slots
 overflow_add-result c =
-    omega (arith, second_within (first c) (last c) (all_fit (goal.at.overflow_add-result c).After-write_waits-w) c.put_bits-at.ensures)
+    let g = (goal.at.overflow_add-result c).After-write_waits-w in
+    omega (arith, second_within (first g) (last g) (all_fit g) c.put_bits-at.ensures)
 
 pub returns : goal.returns
 unfolding write_slots
 returns c =
+    let g = (goal.at.returns c).After-write_waits-w in
     let n = c.args.n in
     let byte = c.args.byte in
     let fifth = c.args.fifth in
     let e = ap (λ (w : Waits). bytes_of (write_slots w n fifth byte)) (sym c.write_waits-w.ensures) in
     let x : c.verb_for-verb.result ≡ verb_for release (get_or (low_first byte) (n - 1) 0) = c.verb_for-verb.ensures ∙ ap (verb_for release) (sym (low_at byte (n - 1) (omega (arith, c.requires.0.0, c.requires.0.1)))) in
-    same_written e (joined (first c) (last c) c.put_bits-at.ensures (rw x at c.put_slot.ensures))
+    same_written e (joined (first g) (last g) c.put_bits-at.ensures (rw x at c.put_slot.ensures))

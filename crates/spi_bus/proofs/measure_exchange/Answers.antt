@@ -2,7 +2,7 @@
 use borrow.Author.Rules.{rules}
 use Prim.Native.Nat.{ℕ}
 use mathlib.Core.Path.{◌≡◌, sym, ap, ◌∙◌}
-use lib.ListN.{length, length-map}
+use lib.ListN.{length}
 use native.Mathlib.Omega.{arith}
 use Rattle.packet.specs.Packet.{register_bytes}
 use Rattle.registers.specs.Registers.{bits_in}
@@ -13,5 +13,5 @@ use Rattle.spi_bus.proofs.measure_exchange.Goals as goal
 pub returns : goal.returns
 returns c =
     let p = c.args.page in
-    let l : length p.packet ≡ register_bytes = sym (length-map p.packet _) ∙ c.well_formed.0.1.1.1.1.0.1.0.1 in
+    let l : length p.packet ≡ register_bytes = c.well_formed.0.1.1.1.1.0.1.0.1 in
     rw c.bits_of-n.ensures (ap (λ (k : ℕ). measured (bits_in p) k 0) (exchange_length p (omega (arith, c.requires))))

@@ -21,7 +21,7 @@ use Rattle.spi_bus.proofs.put_bits.Given as goal
 abbrev pub invariant-loop-j : goal.invariant-loop-j
 invariant-loop-j l =
     (l.j ≤ 8) × (l.at ≤ length l.out)
-    × ((l : List ℕ) (start : ℕ) → Owed (spi_bit l.polarity l.phase) (sent l.n l.high l.r) l start l.i l.initial.out l.initial.at → Owed (spi_bit l.polarity l.phase) (sent l.n l.high l.r) l start (l.i + l.j) l.out l.at)
+    × ((xs : List ℕ) (start : ℕ) → Owed (spi_bit l.polarity l.phase) (sent l.n l.high l.r) xs start l.i l.initial.out l.initial.at → Owed (spi_bit l.polarity l.phase) (sent l.n l.high l.r) xs start (l.i + l.j) l.out l.at)
 
 abbrev pub decreases-loop-j : goal.decreases-loop-j
 decreases-loop-j l = 8 - l.j
@@ -37,7 +37,7 @@ decreases-loop-i l = l.n - l.i
 abbrev pub invariant-loop-i-2 : goal.invariant-loop-i-2
 invariant-loop-i-2 l =
     (l.i ≤ l.n) × (l.at ≤ length l.out)
-    × ((l : List ℕ) (start : ℕ) → Owed (spi_bit l.polarity l.phase) (sent l.n l.high l.r) l start l.initial.i l.initial.out l.initial.at → Owed (spi_bit l.polarity l.phase) (sent l.n l.high l.r) l start l.i l.out l.at)
+    × ((xs : List ℕ) (start : ℕ) → Owed (spi_bit l.polarity l.phase) (sent l.n l.high l.r) xs start l.initial.i l.initial.out l.initial.at → Owed (spi_bit l.polarity l.phase) (sent l.n l.high l.r) xs start l.i l.out l.at)
 
 abbrev pub decreases-loop-i-2 : goal.decreases-loop-i-2
 decreases-loop-i-2 l = l.n - l.i

@@ -16,23 +16,23 @@ tested s e q = ap (λ (x : Bool). x && not s.drop) (sym e) ∙ q
 pub returns-then-not-in_range : goal.returns-then-not-in_range
 unfolding judgement_of
 returns-then-not-in_range c =
-    rw (sym c.in_range.ensures ∙ not-true _ c.if-not-in_range.true)
+    rw (sym c.in_range.ensures ∙ c.if-not-in_range.true)
 
 pub returns-then-not-is_idle-s : goal.returns-then-not-is_idle-s
 unfolding judgement_of
 returns-then-not-is_idle-s c =
     let s = c.args.self.state in
     let busy = not-true (c.is_idle.result && not s.drop) c.if-not-is_idle-s.true in
-    rw (sym c.in_range.ensures ∙ not-false _ c.if-not-in_range.false, tested s c.is_idle.ensures busy)
+    rw (sym c.in_range.ensures ∙ c.if-not-in_range.false, tested s c.is_idle.ensures busy)
 
 pub context-requires : goal.context-requires
 unfolding judgement_of
 context-requires c =
-    ((range_test c.args.self.state).0 (sym c.in_range.ensures ∙ not-false _ c.if-not-in_range.false)).page.size_register
+    ((range_test c.args.self.state).0 (sym c.in_range.ensures ∙ c.if-not-in_range.false)).page.size_register
 
 pub returns : goal.returns
 unfolding judgement_of
 returns c =
     let s = c.args.self.state in
     let free = not-false (c.is_idle.result && not s.drop) c.if-not-is_idle-s.false in
-    rw (sym c.in_range.ensures ∙ not-false _ c.if-not-in_range.false, tested s c.is_idle.ensures free, ← c.context.ensures, ← c.judge-v.ensures)
+    rw (sym c.in_range.ensures ∙ c.if-not-in_range.false, tested s c.is_idle.ensures free, ← c.context.ensures, ← c.judge-v.ensures)

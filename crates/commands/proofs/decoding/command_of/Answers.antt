@@ -312,4 +312,4 @@ returns-in-106 c =
 
 pub returns-in_default-b : goal.returns-in_default-b
 returns-in_default-b c =
-    rw c.if-extended.false (missed k.Unknown (Unit {0}) command_table c.args.b c.in_default-b.rest)
+    rw c.if-extended.false (missed k.Unknown (Unit {0}) command_table c.args.b c.in_default-b.in_default-b-own.rest)

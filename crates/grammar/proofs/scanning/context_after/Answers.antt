@@ -23,4 +23,4 @@ returns-in-Configure c =
 pub returns-in-Resize : goal.returns-in-Resize
 returns-in-Resize c =
     let a = c.args in
-    ap (resized a.c) c.type_size.ensures ∙ sym (ap (λ (e : ContextChange). context_after e a.b a.c) c.in-Resize.is)
+    ap (resized a.c) c.size_of.ensures ∙ sym (ap (λ (e : ContextChange). context_after e a.b a.c) c.in-Resize.is)

@@ -10,7 +10,7 @@ use Rattle.grammar.proofs.scanning.open_item.Goals as goal
 pub returns-then-not-is_legal : goal.returns-then-not-is_legal
 returns-then-not-is_legal c =
     let a = c.args in
-    rejected (opening_in a.b a.extended) a.c a.b _ (sym c.is_legal.ensures ∙ not-true _ c.if-not-is_legal.true) c.code_for.ensures
+    rejected (opening_in a.b a.extended) a.c a.b _ (sym c.is_legal.ensures ∙ c.if-not-is_legal.true) c.code_for.ensures
 
 pub returns-then-b-extended : goal.returns-then-b-extended
 returns-then-b-extended c =
@@ -20,4 +20,4 @@ pub returns : goal.returns
 returns c =
     let a = c.args in
     ap Accepted c.advance.ensures
-    ∙ accepted (opening_in a.b a.extended) a.c a.b _ _ (sym c.is_legal.ensures ∙ not-false _ c.if-not-is_legal.false) (opens_none a.b a.extended c.if-b-extended.false) c.operands_of-n.ensures c.change_of-e.ensures
+    ∙ accepted (opening_in a.b a.extended) a.c a.b _ _ (sym c.is_legal.ensures ∙ c.if-not-is_legal.false) (opens_none a.b a.extended c.if-b-extended.false) c.operands_of-n.ensures c.change_of-e.ensures

@@ -15,12 +15,12 @@ use Rattle.session.proofs.advancing.take_first.Goals as goal
 pub returns-then-not-in_range : goal.returns-then-not-in_range
 returns-then-not-in_range c =
     let a = c.args in
-    let t = call_ranges a.c.bridge (event_of a.fault (get_or a.body.now 0 0)) a.samples.now (sym c.in_range.ensures ∙ not-true _ c.if-not-in_range.true) in
+    let t = call_ranges a.c.bridge (event_of a.fault (get_or a.body.now 0 0)) a.samples.now (sym c.in_range.ensures ∙ c.if-not-in_range.true) in
     rw c.codeless.ensures (first_refused a.c a.fault a.start a.end a.body.now a.samples.now a.out.now Ranges (ap (λ (g : Given). g.answer.outcome) t) c.stop.ensures)
 
 pub take_event-d-requires : goal.take_event-d-requires
 take_event-d-requires c =
-    ((range_test c.args.c.bridge.state).0 (sym c.in_range.ensures ∙ not-false _ c.if-not-in_range.false), c.requires.0)
+    ((range_test c.args.c.bridge.state).0 (sym c.in_range.ensures ∙ c.if-not-in_range.false), c.requires.0)
 
 pub returns-in-Refused : goal.returns-in-Refused
 returns-in-Refused c =

@@ -22,7 +22,7 @@ sized c =
 
 pub returns-then-not-fits : goal.returns-then-not-fits
 returns-then-not-fits c =
-    event_refused c.args.s c.args.event c.args.samples.now c.args.out.now c.requires.0 (sized (goal.at.returns-then-not-fits c).Start) c.requires.1 c.measure-r.result c.measure-r.ensures (sym c.fits2.ensures ∙ not-true _ c.if-not-fits.true) c.short.ensures
+    event_refused c.args.s c.args.event c.args.samples.now c.args.out.now c.requires.0 (sized (goal.at.returns-then-not-fits c).Start) c.requires.1 c.measure-r.result c.measure-r.ensures (sym c.fits2.ensures ∙ c.if-not-fits.true) c.short.ensures
 
 pub put_actions-at-requires : goal.put_actions-at-requires
 put_actions-at-requires c =
@@ -34,4 +34,4 @@ put_replies-written-requires c =
 
 pub returns : goal.returns
 returns c =
-    event_accepted c.args.s c.args.event c.args.samples.now c.args.out.now c.requires.0 (sized (goal.at.returns c).Start) c.requires.1 c.measure-r.result c.measure-r.ensures c.put_actions-at.ensures c.put_replies-written.ensures (sym c.fits2.ensures ∙ not-false _ c.if-not-fits.false)
+    event_accepted c.args.s c.args.event c.args.samples.now c.args.out.now c.requires.0 (sized (goal.at.returns c).Start) c.requires.1 c.measure-r.result c.measure-r.ensures c.put_actions-at.ensures c.put_replies-written.ensures (sym c.fits2.ensures ∙ c.if-not-fits.false)
