@@ -113,26 +113,26 @@ module _ (s : State) (n : s.page.size < width) (z : Sized s) (on : Bool) (x : �
   -- a long answer is of the state as it was
   proper_few : (d : Decision) (y : Change) (r : List ℕ) → d.change ≡ y → stays y || short d.answer ≡ true → length r ≡ register_bytes → Few d.answer (changed s d.change) r
   proper_few d c.Nothing r q h e = rw q (long_few d.answer r e)
-  proper_few d c.Reset r q h e = short_few on _ x d.answer h
-  proper_few d (c.Select g) r q h e = short_few on _ x d.answer h
-  proper_few d c.ClearError r q h e = short_few on _ x d.answer h
-  proper_few d c.Save r q h e = short_few on _ x d.answer h
-  proper_few d (c.Flags g) r q h e = short_few on _ x d.answer h
-  proper_few d (c.Latch b) r q h e = short_few on _ x d.answer h
-  proper_few d (c.Await v) r q h e = short_few on _ x d.answer h
-  proper_few d c.EndWait r q h e = short_few on _ x d.answer h
-  proper_few d (c.Store a b) r q h e = short_few on _ x d.answer h
-  proper_few d (c.Cycles b) r q h e = short_few on _ x d.answer h
-  proper_few d (c.Config b) r q h e = short_few on _ x d.answer h
-  proper_few d (c.Size b) r q h e = short_few on _ x d.answer h
-  proper_few d (c.Hold v at b) r q h e = short_few on _ x d.answer h
-  proper_few d (c.LoadPacket at b) r q h e = short_few on _ x d.answer h
-  proper_few d (c.LoadTimings at b) r q h e = short_few on _ x d.answer h
+  proper_few d c.Reset r q h e = short_few on (with_received (changed s d.change) r) x d.answer h
+  proper_few d (c.Select g) r q h e = short_few on (with_received (changed s d.change) r) x d.answer h
+  proper_few d c.ClearError r q h e = short_few on (with_received (changed s d.change) r) x d.answer h
+  proper_few d c.Save r q h e = short_few on (with_received (changed s d.change) r) x d.answer h
+  proper_few d (c.Flags g) r q h e = short_few on (with_received (changed s d.change) r) x d.answer h
+  proper_few d (c.Latch b) r q h e = short_few on (with_received (changed s d.change) r) x d.answer h
+  proper_few d (c.Await v) r q h e = short_few on (with_received (changed s d.change) r) x d.answer h
+  proper_few d c.EndWait r q h e = short_few on (with_received (changed s d.change) r) x d.answer h
+  proper_few d (c.Store a b) r q h e = short_few on (with_received (changed s d.change) r) x d.answer h
+  proper_few d (c.Cycles b) r q h e = short_few on (with_received (changed s d.change) r) x d.answer h
+  proper_few d (c.Config b) r q h e = short_few on (with_received (changed s d.change) r) x d.answer h
+  proper_few d (c.Size b) r q h e = short_few on (with_received (changed s d.change) r) x d.answer h
+  proper_few d (c.Hold v at b) r q h e = short_few on (with_received (changed s d.change) r) x d.answer h
+  proper_few d (c.LoadPacket at b) r q h e = short_few on (with_received (changed s d.change) r) x d.answer h
+  proper_few d (c.LoadTimings at b) r q h e = short_few on (with_received (changed s d.change) r) x d.answer h
 
   sorted_few : (d : Decision) → Sorted d → (r : List ℕ) → length r ≡ register_bytes → Few d.answer (changed s d.change) r
   sorted_few d (is_proper p) r e = proper_few d d.change r refl (both_left (stays d.change || short d.answer) (steady d.wave) (both_right (accepting d.answer) _ p)) e
-  sorted_few d (coded k q) r e = short_few on _ x d.answer (ap (λ (b : Decision). short b.answer) q)
-  sorted_few d (coded_and_sent k q) r e = short_few on _ x d.answer (ap (λ (b : Decision). short b.answer) q)
+  sorted_few d (coded k q) r e = short_few on (with_received (changed s d.change) r) x d.answer (ap (λ (b : Decision). short b.answer) q)
+  sorted_few d (coded_and_sent k q) r e = short_few on (with_received (changed s d.change) r) x d.answer (ap (λ (b : Decision). short b.answer) q)
 
 pub event_replies : (s : State) (a : Event) (ss : List ℕ) (m : ℕ) → FewReplies s a ss m
 unfolding effect_of effect_from

@@ -6,11 +6,12 @@ use mathlib.Core.List.{List}
 use Rattle.codes.specs.Codes.{rejecting}
 use Rattle.codes.proofs.Both.{both_left}
 use Rattle.registers.specs.declared.State.{State}
-use Rattle.registers.specs.Registers.{with_drop}
+use Rattle.registers.specs.Registers.{with_received, with_drop}
 use Rattle.registers.specs.declared.Fault.TheVariants as f
 use Rattle.registers.specs.declared.Event.{Event}
 use Rattle.registers.specs.declared.Event.TheVariants as e
 use Rattle.signals.specs.Waveforms.{wave_of}
+use Rattle.decisions.specs.Changes.{changed}
 use Rattle.decisions.specs.Said.{error_after, codes_of, is_rejected}
 use Rattle.decisions.specs.Decisions.{Decision, ReturnsAndSends, returns, sends, dropped}
 use Rattle.decisions.specs.Effects.{effect_from, carried_out}
@@ -38,7 +39,7 @@ module _ (s : State) (ss : List ℕ) (m : ℕ) where
 
   only_error : (d : Decision) → Sorted d → Only d
   unfolding effect_from
-  only_error d (is_proper p) h = absurd (true≢false (sym h ∙ accepting_said _ _ d.answer (both_left (accepting d.answer) _ p)))
+  only_error d (is_proper p) h = absurd (true≢false (sym h ∙ accepting_said (with_received (changed s d.change) (wave_of (changed s d.change).page d.wave ss m).packet) (wave_of (changed s d.change).page d.wave ss m).byte d.answer (both_left (accepting d.answer) _ p)))
   only_error d (coded code q) h = subst Only (sym q) (returned_only code) h
   only_error d (coded_and_sent code q) h = subst Only (sym q) (sent_only code) h
 

@@ -1,5 +1,6 @@
 -- An exchange gives another packet register, and no other waveform does.
 use borrow.Author.Rules.{rules}
+use borrow.Enum.Refused.{opened}
 use mathlib.Core.Path.{sym, ap, ◌∙◌}
 use Rattle.signals.specs.Waveforms.{Waveform, wave_of}
 use Rattle.signals.proofs.Packets.{packet_kept}
@@ -13,4 +14,4 @@ returns-in-Exchange c =
 pub returns-in_default : goal.returns-in_default
 unfolding wave_of
 returns-in_default c =
-    packet_kept c.args.page c.args.wave c.args.samples.now c.args.from c.in_default.in_default-own.keys2
+    packet_kept c.args.page c.args.wave c.args.samples.now c.args.from (opened c.in_default.in_default-own.keys2)

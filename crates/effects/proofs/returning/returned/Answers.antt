@@ -11,42 +11,42 @@ use Rattle.effects.proofs.returning.returned.Goals as goal
 
 pub returns-in-Silent : goal.returns-in-Silent
 unfolding codes_of
-returns-in-Silent c =
+returns-in-Silent c s =
     rw c.in-Silent.is
 
 pub returns-in-Returns : goal.returns-in-Returns
 unfolding codes_of
-returns-in-Returns c =
+returns-in-Returns c s =
     rw c.in-Returns.is
 
 pub returns-in-ReturnsTwice : goal.returns-in-ReturnsTwice
 unfolding codes_of
-returns-in-ReturnsTwice c =
+returns-in-ReturnsTwice c s =
     rw c.in-ReturnsTwice.is
 
 pub returns-in-ReturnsAndSends : goal.returns-in-ReturnsAndSends
 unfolding codes_of
-returns-in-ReturnsAndSends c =
+returns-in-ReturnsAndSends c s =
     rw c.in-ReturnsAndSends.is
 
 pub returns-in-Checked : goal.returns-in-Checked
 unfolding codes_of
-returns-in-Checked c =
+returns-in-Checked c s =
     rw (c.in-Checked.is, c.checked.ensures)
 
 pub returns-in-Sends : goal.returns-in-Sends
 unfolding codes_of
-returns-in-Sends c =
+returns-in-Sends c s =
     rw c.in-Sends.is
 
 pub returns-in-SendsSample : goal.returns-in-SendsSample
 unfolding codes_of
-returns-in-SendsSample c =
+returns-in-SendsSample c s =
     rw c.in-SendsSample.is
 
 pub returns-in-SendsLevel : goal.returns-in-SendsLevel
 unfolding codes_of
-returns-in-SendsLevel c =
+returns-in-SendsLevel c s =
     rw c.in-SendsLevel.is
 
 pub returns-in-SendsEprom : goal.returns-in-SendsEprom

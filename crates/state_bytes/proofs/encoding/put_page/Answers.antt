@@ -2,7 +2,7 @@
 use borrow.Author.Rules.{rules}
 use mathlib.Core.Path.{◌≡◌, sym, ◌∙◌}
 use native.Mathlib.Omega.{arith}
-use lib.ListN.{length, length-map}
+use lib.ListN.{length}
 use Rattle.packet.specs.Packet.{register_bytes}
 use Rattle.wire.proofs.Buffers.{written_append}
 use Rattle.registers.specs.Registers.{timing_bytes}
@@ -10,10 +10,10 @@ use Rattle.state_bytes.proofs.encoding.put_page.Goals as goal
 use Rattle.state_bytes.proofs.encoding.put_page.Goals.{Start}
 
 packet_size : (c : Start) → length c.args.p.packet ≡ register_bytes
-packet_size c = sym (length-map c.args.p.packet _) ∙ c.well_formed.1.0.1.1.1.1.0.1.0.1
+packet_size c = c.well_formed.1.0.1.1.1.1.0.1.0.1
 
 timings_size : (c : Start) → length c.args.p.timings ≡ timing_bytes
-timings_size c = sym (length-map c.args.p.timings _) ∙ c.well_formed.1.0.1.1.1.1.1.1.1.1.1.1.0.1.0.1
+timings_size c = c.well_formed.1.0.1.1.1.1.1.1.1.1.1.1.0.1.0.1
 
 pub put_packet-b-requires : goal.put_packet-b-requires
 put_packet-b-requires c =

@@ -2,17 +2,17 @@
 use borrow.Author.Rules.{rules}
 use mathlib.Core.Path.{◌≡◌, sym, ◌∙◌}
 use native.Mathlib.Omega.{arith}
-use lib.ListN.{length, length-map}
+use lib.ListN.{length}
 use Rattle.wire.proofs.Buffers.{written_append}
 use Rattle.registers.specs.Registers.{image_bytes, serial_bytes}
 use Rattle.state_bytes.proofs.encoding.put_shared.Goals as goal
 use Rattle.state_bytes.proofs.encoding.put_shared.Goals.{Start}
 
 eprom_size : (c : Start) → length c.args.h.eprom ≡ image_bytes
-eprom_size c = sym (length-map c.args.h.eprom _) ∙ c.well_formed.1.1.0.1.1.1.1.1.0.1.0.1
+eprom_size c = c.well_formed.1.1.0.1.1.1.1.1.0.1.0.1
 
 serial_size : (c : Start) → length c.args.h.serial ≡ serial_bytes
-serial_size c = sym (length-map c.args.h.serial _) ∙ c.well_formed.1.1.0.1.1.1.0.1.0.1
+serial_size c = c.well_formed.1.1.0.1.1.1.0.1.0.1
 
 pub put_bytes-a-requires : goal.put_bytes-a-requires
 put_bytes-a-requires c =
