@@ -10,7 +10,7 @@ pub fn row_named(word: &[u8]) -> usize
         return names::ROWS;
     }
     let mut padded = [b' '; names::NAME_WIDTH];
-    bytes::copy(word, &mut padded);
+    padded[..word.len()].copy_from_slice(word);
     let mut row: usize = 0;
     while row < names::ROWS {
         let name = names::name(row);

@@ -4,7 +4,7 @@ ghost use Rattle.std.specs.Prelude.{◌≡◌, false, ◌<◌, length};
 ghost use Rattle.value_changes.specs.Collected.{collect, collect_all};
 ghost use Rattle.value_changes.specs.Rows.{Timed, level_row, register_row, bit_row, bit_rows};
 
-use libc::STDOUT_FILENO;
+const STDOUT_FILENO: i32 = 1;
 
 // Writes out what is collected, and answers whether that went well, which it does not if that is more than there is.
 pub fn flush(text: &[u8], used: usize) -> bool

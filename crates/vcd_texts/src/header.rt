@@ -1,5 +1,5 @@
 // The header: its unit of time, how it is to be read, and its variables.
-use libc::STDOUT_FILENO;
+const STDOUT_FILENO: i32 = 1;
 
 fn write_comment(pull_up: bool) {
     io::write_all(STDOUT_FILENO, b"$timescale 1 us $end\n$comment\n");

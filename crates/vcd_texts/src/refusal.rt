@@ -1,6 +1,9 @@
 // The refusal that a session ends with, in the dump and on standard error.
-use libc::{STDERR_FILENO, STDOUT_FILENO};
 use records::reading::joined;
+
+const STDOUT_FILENO: i32 = 1;
+
+const STDERR_FILENO: i32 = 2;
 
 fn write_refusal(fd: i32, number: u8, place: u64) {
     io::write_all(fd, b"refusal ");

@@ -1,5 +1,7 @@
 // Text on standard output, in colour only where that is asked for.
-use libc::STDOUT_FILENO;
+const STDOUT_FILENO: i32 = 1;
+
+const STDERR_FILENO: i32 = 2;
 
 pub fn say(text: &[u8]) {
     io::write_all(STDOUT_FILENO, text);
@@ -54,6 +56,6 @@ pub fn no_color(color: bool) {
 // The end of the whole text; if it can't be written, standard error says so.
 pub fn finish() {
     if !io::write_all(STDOUT_FILENO, b"\n") {
-        os::fail(b"standard output");
+        io::write_all(STDERR_FILENO, b"standard output: cannot be written\n");
     }
 }
