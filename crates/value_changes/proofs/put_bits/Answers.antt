@@ -15,9 +15,9 @@ loop-number-init c =
 
 pub loop-number-preserved : goal.loop-number-preserved
 loop-number-preserved c =
-    (search rules, bits_from (c.loop-number.text, c.loop-number.end) (c.put_bit-end.new.0, c.put_bit-end.result) c.loop-number.number c.loop-number c.loop-number.after c.args.identifier (search rules) c.put_bit-end.ensures ∙ c.loop-number.invariant.1)
+    (search rules, bits_from (c.loop-number.text, c.loop-number.end) (c.put_bit-end.new.text, c.put_bit-end.result) c.loop-number.number c.loop-number.before c.loop-number.after c.args.identifier (search rules) c.put_bit-end.ensures ∙ c.loop-number.invariant.1)
 
 pub returns : goal.returns
 returns c =
     let l = c.loop-number in
-    sym (no_bits (l.text, l.end) l.number l l.after c.args.identifier (0x38 - l.number) (omega arith)) ∙ l.invariant.1
+    sym (no_bits (l.text, l.end) l.number l.before l.after c.args.identifier (0x38 - l.number) (omega arith)) ∙ l.invariant.1
