@@ -5,4 +5,4 @@ use Rattle.verdicts.proofs.code_end.Goals as goal
 
 pub returns : goal.returns
 returns c =
-    let h = c.hex.ensures in code_ended c.args.code c.hex.result _ (search rules) h.1.0 h.1.1
+    let h = c.hex.ensures in code_ended c.args.code c.hex.result _ (search rules) h.len h.digits

@@ -9,4 +9,4 @@ pub returns-in-Whole : goal.returns-in-Whole
 returns-in-Whole c = rw c.in-Whole.is (line_written Whole 0 refl c.put_bytes.ensures (search rules))
 
 pub returns-in-Open : goal.returns-in-Open
-returns-in-Open c = rw c.in-Open.is (line_written Open 0 refl c.put_bytes.ensures (search rules))
+returns-in-Open c = rw c.in-Open.is (line_written Open 0 refl c.put_bytes-in-Open.ensures (search rules))

@@ -10,8 +10,7 @@ use lib.Dec.{ltb}
 use lib.ListN.{length, get_or}
 use Rattle.text.specs.declared.numbers.Hex.TheVariants.{Byte, None}
 use Rattle.text.specs.Words.{digit_of, hex_of}
-use Rattle.text.proofs.numbers.byte_of.Statement.{statement}
-use Rattle.text.proofs.numbers.byte_of.Tie as tie
+use Rattle.text.proofs.numbers.byte_of.Goals as goal
 
 below : (a b : ℕ) → ltb a 16 && ltb b 16 ≡ true → (a < 16) × (b < 16)
 below a b t = let h = (and-eq-true_iff (ltb a 16) (ltb b 16)).0 t in (ltb-true a 16 h.0, ltb-true b 16 h.1)
@@ -23,20 +22,22 @@ module _ (w : List ℕ) (high low : ℕ) (two : length w ≡ 2) (e : high ≡ di
   others : ltb high 16 && ltb low 16 ≡ false → None ≡ hex_of w
   others t = rw (eq-eqb (length w) 2 two, ← e, ← f, t)
 
-pub byte_of_spec : {M : Type 1} → statement M
-byte_of_spec =
-    tie.close
-    (tie.spec
-    (λ c. search rules)
-    (λ c κs. search rules)
-    (λ c. search rules)
-    (λ c κs. search rules)
-    (λ c. omega (arith, below c.before.before.before.digit.result c.before.digit2.result c.if2.true))
-    (λ c. omega (arith, below c.before.before.before.digit.result c.before.digit2.result c.if2.true))
-    (λ c.
-    let s = c.before.before.before.before.before.before.before in
-    digits s.args.word.now c.before.before.before.digit.result c.before.digit2.result c.before.before.before.before.before.if1.true c.before.before.before.digit.ensures c.before.digit2.ensures c.if2.true)
-    (λ c.
-    let s = c.before.before.before.before.before.before.before in
-    others s.args.word.now c.before.before.before.digit.result c.before.digit2.result c.before.before.before.before.before.if1.true c.before.before.before.digit.ensures c.before.digit2.ensures c.if2.false)
-    (λ c. rw (ne_eqb _ _ c.if1.false)))
+pub overflow_mul-result : goal.overflow_mul-result
+overflow_mul-result c =
+    omega (arith, below c.digit-high.result c.digit-low.result c.if-high-low.true)
+
+pub overflow_add-result : goal.overflow_add-result
+overflow_add-result c =
+    omega (arith, below c.digit-high.result c.digit-low.result c.if-high-low.true)
+
+pub returns-then-high-low : goal.returns-then-high-low
+returns-then-high-low c =
+    digits c.args.word.now c.digit-high.result c.digit-low.result c.if-word-eq2.true c.digit-high.ensures c.digit-low.ensures c.if-high-low.true
+
+pub returns-then-word-eq2 : goal.returns-then-word-eq2
+returns-then-word-eq2 c =
+    others c.args.word.now c.digit-high.result c.digit-low.result c.if-word-eq2.true c.digit-high.ensures c.digit-low.ensures c.if-high-low.false
+
+pub returns : goal.returns
+returns c =
+    rw (ne_eqb _ _ c.if-word-eq2.false)

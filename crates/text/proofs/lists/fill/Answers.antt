@@ -1,4 +1,4 @@
--- The loop's invariant: writing the bytes that are left gives what writing them all gives.
+-- The goals that the search leaves.
 use borrow.Author.Rules.{rules}
 use mathlib.Core.Path.{◌≡◌, refl, sym, ap, ◌∙◌}
 use mathlib.Core.List.{List}
@@ -8,15 +8,7 @@ use native.Mathlib.Omega.{arith}
 use lib.ListN.{length, set, replicate, length-set, length-replicate}
 use Rattle.wire.specs.Buffer.{overwrite, Written}
 use Rattle.wire.proofs.Buffers.{overwrite_none}
-use Rattle.text.proofs.lists.fill.Statement.{statement}
-use Rattle.text.proofs.lists.fill.Tie as tie
-
-abbrev invariant-loop : tie.invariant-loop
-invariant-loop body₀ at byte count i₀ body i =
-    (i ≤ count) × (length body ≡ length body₀) × (overwrite body (at + i) (replicate (count - i) byte) ≡ overwrite body₀ (at + 0) (replicate (count - 0) byte))
-
-abbrev decreases-loop : tie.decreases-loop
-decreases-loop body₀ at byte count i₀ body i = count - i
+use Rattle.text.proofs.lists.fill.Goals as goal
 
 fill_turn : (l : List ℕ) (at b k i : ℕ) → i < k → overwrite (set l (at + i) b) (at + (i + 1)) (replicate (k - (i + 1)) b) ≡ overwrite l (at + i) (replicate (k - i) b)
 unfolding overwrite
@@ -33,18 +25,14 @@ fill_done l at b k m i e q =
       after = ap (λ (n : ℕ). at + n) (e ∙ sym (length-replicate k b));
     }
 
-pub fill_spec : {M : Type 1} → statement M
-fill_spec =
-    tie.close
-    (tie.spec
-    invariant-loop
-    decreases-loop
-    (λ c. (omega arith, refl, refl))
-    (λ c. search rules)
-    (λ c. search rules)
-    (λ c. search rules)
-    (λ c. search rules)
-    (λ c. (omega arith, simp length-set (omega arith), fill_turn _ _ _ _ _ (search rules) ∙ c.before.loop.invariant.2))
-    (λ c. search rules)
-    (λ c. search rules)
-    (λ c. fill_done _ _ _ _ _ _ (omega arith) c.before.loop.invariant.2))
+pub loop-i-init : goal.loop-i-init
+loop-i-init c =
+    (omega arith, refl, refl)
+
+pub loop-i-preserved : goal.loop-i-preserved
+loop-i-preserved c =
+    (omega arith, simp length-set (omega arith), fill_turn _ _ _ _ _ (search rules) ∙ c.loop-i.invariant.2)
+
+pub returns : goal.returns
+returns c =
+    fill_done _ _ _ _ _ _ (omega arith) c.loop-i.invariant.2
