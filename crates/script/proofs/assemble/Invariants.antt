@@ -1,0 +1,17 @@
+-- Line after line: reading the rest of the script gives what reading it all gives.
+use borrow.Author.Rules.{rules}
+use mathlib.Core.Path.{◌≡◌, sym}
+use Prim.Native.Nat.{◌-◌}
+use native.Mathlib.Omega.{arith}
+use lib.ListN.{length}
+use Rattle.script.specs.Statements.{most}
+use Rattle.text.specs.declared.words.Class.TheVariants.{Line}
+use Rattle.text.proofs.Spans.{past_within}
+use Rattle.script.proofs.Assembling.{Assembling, assembling_first, assembling_end, assembling_wrong, assembling_on}
+use Rattle.script.proofs.assemble.Given as goal
+
+abbrev pub invariant-loop-at : goal.invariant-loop-at
+invariant-loop-at l = Assembling l.text l.initial.out l.out l.g l.at l.size × (most ≡ length l.body)
+
+abbrev pub decreases-loop-at : goal.decreases-loop-at
+decreases-loop-at l = length l.text - l.at

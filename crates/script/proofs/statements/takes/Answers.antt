@@ -1,0 +1,7 @@
+-- The grammar's count for the row's code.
+use borrow.Author.Rules.{rules}
+use Rattle.script.proofs.statements.takes.Goals as goal
+
+pub returns : goal.returns
+returns c =
+    rw (← c.code.ensures, ← c.extended.ensures) c.operands.ensures
