@@ -36,7 +36,7 @@ loop-at-smaller c =
 
 pub loop-at-preserved : goal.loop-at-preserved
 loop-at-preserved c =
-    let q = c.statement-parsed.ensures in (assembling_on c.args.text.now c.args.out.now c.loop-at.out c.loop-at.g c.loop-at.at c.loop-at.size c.loop-at.invariant.0 c.loop-at-test.true _ q.is _ _ c.put_parsed-r.ensures c.in-Done.is _ c.hand_over-g.ensures _ c.past-at.ensures, search (rules, c.type_inv.body.given))
+    let q = c.statement-parsed.ensures in (assembling_on c.args.text.now c.args.out.now c.loop-at.out c.loop-at.g c.loop-at.at c.loop-at.size c.loop-at.invariant.0 c.loop-at-test.true _ q.is _ _ c.put_parsed-r.ensures c.in-Done.is _ c.hand_over-g.ensures _ c.past-at.ensures, omega (arith, c.loop-at.invariant.1, c.statement-parsed.auto.body))
 
 pub shape_of-out-in-Wrong : goal.shape_of-out-in-Wrong
 shape_of-out-in-Wrong c =
