@@ -1,13 +1,10 @@
 -- The goals that the search leaves.
 use borrow.Author.Rules.{rules}
-use mathlib.Core.Path.{◌≡◌, sym}
-use Prim.Native.Nat.{◌-◌}
+use mathlib.Core.Path.{sym}
 use native.Mathlib.Omega.{arith}
-use lib.ListN.{length}
-use Rattle.script.specs.Statements.{most}
 use Rattle.text.specs.declared.words.Class.TheVariants.{Line}
 use Rattle.text.proofs.Spans.{past_within}
-use Rattle.script.proofs.Assembling.{Assembling, assembling_first, assembling_end, assembling_wrong, assembling_on}
+use Rattle.script.proofs.Assembling.{assembling_first, assembling_end, assembling_wrong, assembling_on}
 use Rattle.script.proofs.assemble.Goals as goal
 
 pub loop-at-init : goal.loop-at-init

@@ -1,13 +1,9 @@
 -- Line after line: reading the rest of the script gives what reading it all gives.
-use borrow.Author.Rules.{rules}
-use mathlib.Core.Path.{◌≡◌, sym}
+use mathlib.Core.Path.{◌≡◌}
 use Prim.Native.Nat.{◌-◌}
-use native.Mathlib.Omega.{arith}
 use lib.ListN.{length}
 use Rattle.script.specs.Statements.{most}
-use Rattle.text.specs.declared.words.Class.TheVariants.{Line}
-use Rattle.text.proofs.Spans.{past_within}
-use Rattle.script.proofs.Assembling.{Assembling, assembling_first, assembling_end, assembling_wrong, assembling_on}
+use Rattle.script.proofs.Assembling.{Assembling}
 use Rattle.script.proofs.assemble.Given as goal
 
 abbrev pub invariant-loop-at : goal.invariant-loop-at

@@ -1,5 +1,4 @@
 -- Bytes and a fault are followed, and nothing else leads anywhere.
-use borrow.Author.Rules.{rules}
 use borrow.Author.Tests.{eq-eqb, ne_eqb}
 use native.Mathlib.Omega.{arith}
 use lib.ListN.{length-take}

@@ -1,5 +1,4 @@
 -- By what was parsed.
-use borrow.Author.Rules.{rules}
 use native.Mathlib.Omega.{arith}
 use lib.ListN.{length-take}
 use Rattle.text.specs.declared.Stop.TheVariants.{Done, Wrong}

@@ -1,5 +1,4 @@
 -- A row is written where it fits.
-use borrow.Author.Rules.{rules}
 use borrow.Author.Tests.{leb-true}
 use mathlib.Core.Path.{sym, ◌∙◌}
 use Rattle.value_changes.proofs.Collecting.{fitting, too_long}

@@ -1,5 +1,4 @@
 -- A bit is put if it changed.
-use borrow.Author.Rules.{rules}
 use borrow.Author.Tests.{eq-eqb, ne_eqb}
 use Rattle.value_changes.proofs.Collecting.{same_bit}
 use Rattle.value_changes.proofs.put_bit.Goals as goal

@@ -1,11 +1,8 @@
 -- The goals that the search leaves.
 use borrow.Author.Rules.{rules}
 use Prim.Native.Nat.{◌-◌}
-use mathlib.Core.Path.{◌≡◌, refl, sym, ◌∙◌}
+use mathlib.Core.Path.{refl, sym, ◌∙◌}
 use native.Mathlib.Omega.{arith}
-use lib.ListN.{length}
-use Rattle.value_changes.specs.Collected.{collect_all}
-use Rattle.value_changes.specs.Rows.{bit_rows}
 use Rattle.value_changes.proofs.Collecting.{bits_from, no_bits}
 use Rattle.value_changes.proofs.put_bits.Goals as goal
 

@@ -1,12 +1,9 @@
 -- What the bits left add is what all of them add.
-use borrow.Author.Rules.{rules}
 use Prim.Native.Nat.{◌-◌}
-use mathlib.Core.Path.{◌≡◌, refl, sym, ◌∙◌}
-use native.Mathlib.Omega.{arith}
+use mathlib.Core.Path.{◌≡◌}
 use lib.ListN.{length}
 use Rattle.value_changes.specs.Collected.{collect_all}
 use Rattle.value_changes.specs.Rows.{bit_rows}
-use Rattle.value_changes.proofs.Collecting.{bits_from, no_bits}
 use Rattle.value_changes.proofs.put_bits.Given as goal
 
 abbrev pub invariant-loop-number : goal.invariant-loop-number

@@ -1,5 +1,4 @@
 -- Row by row; the digits are the number's.
-use borrow.Author.Rules.{rules}
 use mathlib.Core.List.{[], ◌∷◌}
 use Rattle.value_changes.proofs.Collecting.{three_rows}
 use Rattle.value_changes.proofs.put_time.Goals as goal

@@ -1,9 +1,8 @@
 -- The goals that the search leaves.
 use borrow.Author.Rules.{rules}
-use Prim.Native.Nat.{◌-◌}
 use native.Mathlib.Omega.{arith}
-use lib.ListN.{length, length-take, length-drop}
-use Rattle.script.proofs.Cutting.{Cutting, cutting_first, cutting_full, cutting_on, cutting_last_full, cutting_done}
+use lib.ListN.{length-take, length-drop}
+use Rattle.script.proofs.Cutting.{cutting_first, cutting_full, cutting_on, cutting_last_full, cutting_done}
 use Rattle.script.proofs.cut.put_records.Goals as goal
 
 pub loop-from-init : goal.loop-from-init
@@ -25,7 +24,7 @@ shape_of-out-then-out-size c =
 pub returns-then-out-size : goal.returns-then-out-size
 returns-then-out-size c =
     let l = c.loop-from in
-        rw c.full.ensures (cutting_full c.args.kind c.args.body.now c.args.place c.args.out.now c.args.at l.out l.from l.size l.invariant c.loop-from-test.true c.if-out-size.true)
+    rw c.full.ensures (cutting_full c.args.kind c.args.body.now c.args.place c.args.out.now c.args.at l.out l.from l.size l.invariant c.loop-from-test.true c.if-out-size.true)
 
 pub put_record-size-requires : goal.put_record-size-requires
 put_record-size-requires c =
@@ -34,7 +33,7 @@ put_record-size-requires c =
 pub loop-from-preserved : goal.loop-from-preserved
 loop-from-preserved c =
     let l = c.loop-from in
-        cutting_on c.args.kind c.args.body.now c.args.place c.args.out.now c.args.at l.out l.from l.size l.invariant c.loop-from-test.true c.if-out-size.false _ _ c.put_record-size.ensures
+    cutting_on c.args.kind c.args.body.now c.args.place c.args.out.now c.args.at l.out l.from l.size l.invariant c.loop-from-test.true c.if-out-size.false _ _ c.put_record-size.ensures
 
 pub overflow_sub-left : goal.overflow_sub-left
 overflow_sub-left c =
@@ -51,7 +50,7 @@ shape_of-out-then-out-size-2 c =
 pub returns-then-out-size-2 : goal.returns-then-out-size-2
 returns-then-out-size-2 c =
     let l = c.loop-from in
-        rw c.full-then-out-size-2.ensures (cutting_last_full c.args.kind c.args.body.now c.args.place c.args.out.now c.args.at l.out l.from l.size l.invariant c.loop-from-test.false c.if-out-size-2.true)
+    rw c.full-then-out-size-2.ensures (cutting_last_full c.args.kind c.args.body.now c.args.place c.args.out.now c.args.at l.out l.from l.size l.invariant c.loop-from-test.false c.if-out-size-2.true)
 
 pub slice_bounds-put_record-count-2 : goal.slice_bounds-put_record-count-2
 slice_bounds-put_record-count-2 c =
@@ -68,4 +67,4 @@ shape_of-out c =
 pub returns : goal.returns
 returns c =
     let l = c.loop-from in
-        cutting_done c.args.kind c.args.body.now c.args.place c.args.out.now c.args.at l.out l.from l.size l.invariant c.loop-from-test.false c.if-out-size-2.false _ _ c.put_record-size-2.ensures
+    cutting_done c.args.kind c.args.body.now c.args.place c.args.out.now c.args.at l.out l.from l.size l.invariant c.loop-from-test.false c.if-out-size-2.false _ _ c.put_record-size-2.ensures

@@ -1,5 +1,4 @@
 -- No such command, or its first bytes and its operands.
-use borrow.Author.Rules.{rules}
 use borrow.Author.Tests.{le-ltb}
 use mathlib.Core.Path.{refl}
 use Rattle.script.proofs.Parsing.{opening_within, parses_command}

@@ -1,5 +1,4 @@
 -- No name, or the name and the line's end, or something behind it.
-use borrow.Author.Rules.{rules}
 use borrow.Author.Tests.{eq-eqb, ne_eqb}
 use mathlib.Core.Path.{refl, sym, ◌∙◌}
 use Rattle.text.specs.Words.{word_at, text_of}

@@ -1,5 +1,4 @@
 -- The list is read, and parsed.
-use borrow.Author.Rules.{rules}
 use Rattle.script.proofs.Parsing.{parses_list}
 use Rattle.script.proofs.statements.list_at.Goals as goal
 

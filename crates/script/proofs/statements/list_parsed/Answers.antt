@@ -1,5 +1,4 @@
 -- By how the list ended.
-use borrow.Author.Rules.{rules}
 use borrow.Author.Tests.{eq-eqb, ne_eqb}
 use Rattle.script.proofs.statements.list_parsed.Goals as goal
 

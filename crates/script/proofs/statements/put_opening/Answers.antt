@@ -1,5 +1,4 @@
 -- With 1D in front or without.
-use borrow.Author.Rules.{rules}
 use mathlib.Core.Path.{sym, ◌∙◌}
 use Rattle.script.proofs.statements.put_opening.Goals as goal
 

@@ -1,5 +1,4 @@
 -- By the next word.
-use borrow.Author.Rules.{rules}
 use Rattle.script.specs.Statements.{statement_at}
 use Rattle.text.proofs.Spans.{word_forward, word_within}
 use Rattle.script.proofs.statements.statement.Goals as goal

@@ -1,5 +1,4 @@
 -- The grammar's count for the row's code.
-use borrow.Author.Rules.{rules}
 use Rattle.script.proofs.statements.takes.Goals as goal
 
 pub returns : goal.returns

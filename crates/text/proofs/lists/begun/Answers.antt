@@ -1,5 +1,4 @@
 -- By the first word.
-use borrow.Author.Rules.{rules}
 use borrow.Author.Tests.{eq-eqb, ne_eqb}
 use mathlib.Core.Path.{sym, ◌∙◌}
 use Rattle.text.proofs.Spans.{word_forward, word_within}

@@ -1,5 +1,4 @@
 -- By the next word.
-use borrow.Author.Rules.{rules}
 use Rattle.text.specs.Lists.{item_at}
 use Rattle.text.proofs.Spans.{word_forward, word_within}
 use Rattle.text.proofs.lists.item_at.Goals as goal

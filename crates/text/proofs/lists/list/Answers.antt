@@ -1,10 +1,7 @@
 -- The goals that the search leaves.
-use borrow.Author.Rules.{rules}
 use mathlib.Core.Path.{sym, ◌∙◌}
-use Prim.Native.Nat.{◌-◌}
 use native.Mathlib.Omega.{arith}
-use lib.ListN.{length}
-use Rattle.text.proofs.Listing.{Listing, item_next, listing_first, listing_end, listing_wrong, listing_full, listing_on}
+use Rattle.text.proofs.Listing.{item_next, listing_first, listing_end, listing_wrong, listing_full, listing_on}
 use Rattle.text.proofs.lists.list.Goals as goal
 
 pub loop-byte-init : goal.loop-byte-init

@@ -1,10 +1,7 @@
 -- Item after item: reading the rest of the list gives what reading it all gives.
-use borrow.Author.Rules.{rules}
-use mathlib.Core.Path.{sym, ◌∙◌}
 use Prim.Native.Nat.{◌-◌}
-use native.Mathlib.Omega.{arith}
 use lib.ListN.{length}
-use Rattle.text.proofs.Listing.{Listing, item_next, listing_first, listing_end, listing_wrong, listing_full, listing_on}
+use Rattle.text.proofs.Listing.{Listing}
 use Rattle.text.proofs.lists.list.Given as goal
 
 abbrev pub invariant-loop-byte : goal.invariant-loop-byte

@@ -1,5 +1,4 @@
 -- By the word behind the byte.
-use borrow.Author.Rules.{rules}
 use mathlib.Core.Path.{sym, ◌∙◌}
 use mathlib.Core.List.{[], ◌∷◌}
 use Rattle.text.specs.Words.{text_of}

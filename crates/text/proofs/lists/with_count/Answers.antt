@@ -1,5 +1,4 @@
 -- By the count.
-use borrow.Author.Rules.{rules}
 use borrow.Author.Tests.{eq-eqb, ne_eqb}
 use mathlib.Core.Path.{sym, ◌∙◌}
 use Rattle.text.specs.Words.{text_of, count_of}

@@ -1,5 +1,4 @@
 -- Two digits below 16 make a byte; with any other length or digit there is none.
-use borrow.Author.Rules.{rules}
 use borrow.Author.Tests.{ltb-true, eq-eqb, ne_eqb}
 use Prim.Native.Nat.{ℕ, ◌+◌, ◌*◌, ◌<◌}
 use mathlib.Core.Path.{◌≡◌}

@@ -1,7 +1,6 @@
 -- The goals that the search leaves.
-use borrow.Author.Rules.{rules}
 use borrow.Author.Tests.{ltb-true, leb-true}
-use Prim.Native.Nat.{ℕ, ◌+◌, ◌-◌, ◌*◌, ◌≤◌, ◌<◌}
+use Prim.Native.Nat.{ℕ, ◌+◌, ◌*◌, ◌≤◌, ◌<◌}
 use mathlib.Core.Path.{◌≡◌, refl, ◌∙◌}
 use mathlib.Core.Bool.{true, false, ◌&&◌, and-eq-true_iff}
 use mathlib.Core.List.{List}
@@ -40,12 +39,12 @@ overflow_add-n c =
 pub loop-i-preserved : goal.loop-i-preserved
 loop-i-preserved c =
     let l = c.loop-i in
-        (omega arith, omega (arith, below c.digit-d.result l.n c.if-d-n.true), one_more c.args.word.now l.n l.i c.digit-d.result (omega arith) c.digit-d.ensures c.if-d-n.true ∙ l.invariant.2)
+    (omega arith, omega (arith, below c.digit-d.result l.n c.if-d-n.true), one_more c.args.word.now l.n l.i c.digit-d.result (omega arith) c.digit-d.ensures c.if-d-n.true ∙ l.invariant.2)
 
 pub returns-else-d-n : goal.returns-else-d-n
 returns-else-d-n c =
     let l = c.loop-i in
-        no_count c.args.word.now l.n l.i c.digit-d.result (omega arith) c.digit-d.ensures c.if-d-n.false ∙ l.invariant.2
+    no_count c.args.word.now l.n l.i c.digit-d.result (omega arith) c.digit-d.ensures c.if-d-n.false ∙ l.invariant.2
 
 pub returns : goal.returns
 returns c =

@@ -1,5 +1,4 @@
 -- Each way out is one of the definition's tests, with the tests before it false.
-use borrow.Author.Rules.{rules}
 use borrow.Author.Tests.{lt-ltb, le-ltb}
 use native.Mathlib.Omega.{arith}
 use Rattle.text.proofs.numbers.digit.Goals as goal

@@ -1,7 +1,6 @@
 -- The goals that the search leaves.
-use borrow.Author.Rules.{rules}
 use borrow.Author.Tests.{eq-eqb, ne_eqb}
-use Prim.Native.Nat.{ℕ, ◌+◌, ◌-◌, ◌≤◌, ◌<◌}
+use Prim.Native.Nat.{ℕ, ◌+◌, ◌≤◌, ◌<◌}
 use mathlib.Core.Path.{◌≡◌, refl, ◌∙◌}
 use mathlib.Core.Bool.{cond}
 use mathlib.Core.List.{List}
@@ -39,19 +38,19 @@ loop-i-init c =
 pub returns-then-text-i : goal.returns-then-text-i
 returns-then-text-i c =
     let l = c.loop-i in
-        all_read c.args.text.now c.args.place l.line l.column l.i (simp length-take (omega arith)) ∙ l.invariant.4
+    all_read c.args.text.now c.args.place l.line l.column l.i (simp length-take (omega arith)) ∙ l.invariant.4
 
 pub loop-i-preserved : goal.loop-i-preserved
 loop-i-preserved c =
     let l = c.loop-i in
-        let t = c.args.text.now in
+    let t = c.args.text.now in
     let p = c.args.place in
     elim c.if-text-i-eq10.branch [
-      then-text-i-eq10 w ↦ rw (w.line-is, w.column-is) (omega arith, omega arith, omega arith, omega arith, line_ends t p l.line l.column l.i (omega arith) (omega arith) w.if-text-i-eq10.true ∙ l.invariant.4)
-    | else-text-i-eq10 w ↦ rw (w.line-is, w.column-is) (omega arith, omega arith, omega arith, omega arith, line_goes_on t p l.line l.column l.i (omega arith) (omega arith) w.if-text-i-eq10.false ∙ l.invariant.4)
+      | then-text-i-eq10 w ↦ rw (w.line-is, w.column-is) (omega arith, omega arith, omega arith, omega arith, line_ends t p l.line l.column l.i (omega arith) (omega arith) w.if-text-i-eq10.true ∙ l.invariant.4)
+      | else-text-i-eq10 w ↦ rw (w.line-is, w.column-is) (omega arith, omega arith, omega arith, omega arith, line_goes_on t p l.line l.column l.i (omega arith) (omega arith) w.if-text-i-eq10.false ∙ l.invariant.4)
     ]
 
 pub returns : goal.returns
 returns c =
     let l = c.loop-i in
-        all_read c.args.text.now c.args.place l.line l.column l.i (simp length-take (omega arith)) ∙ l.invariant.4
+    all_read c.args.text.now c.args.place l.line l.column l.i (simp length-take (omega arith)) ∙ l.invariant.4

@@ -1,9 +1,5 @@
 -- The goals that the search leaves.
-use borrow.Author.Rules.{rules}
-use mathlib.Core.Path.{◌≡◌, refl, sym, ◌∙◌}
-use Prim.Native.Nat.{◌-◌}
-use lib.ListN.{length}
-use Rattle.text.specs.Words.{past}
+use mathlib.Core.Path.{refl, sym, ◌∙◌}
 use Rattle.text.proofs.Spans.{past_more, past_stop, past_end}
 use Rattle.text.proofs.words.past.Goals as goal
 

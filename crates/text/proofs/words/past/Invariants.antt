@@ -1,11 +1,8 @@
 -- The bytes of the class end at one place, from wherever among them the search goes on.
-use borrow.Author.Rules.{rules}
-use borrow.Author.Tests.{not-true, not-false}
-use mathlib.Core.Path.{◌≡◌, refl, sym, ◌∙◌}
+use mathlib.Core.Path.{◌≡◌}
 use Prim.Native.Nat.{◌-◌}
 use lib.ListN.{length}
 use Rattle.text.specs.Words.{past}
-use Rattle.text.proofs.Spans.{past_more, past_stop, past_end}
 use Rattle.text.proofs.words.past.Given as goal
 
 abbrev pub invariant-loop-i : goal.invariant-loop-i

@@ -1,5 +1,4 @@
 -- Past the blanks, and from there past the word.
-use borrow.Author.Rules.{rules}
 use Rattle.text.specs.Words.{word_at}
 use Rattle.text.proofs.words.word_at.Goals as goal
 

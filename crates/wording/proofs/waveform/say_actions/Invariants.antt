@@ -1,5 +1,5 @@
 -- The actions left fall.
-use Rattle.std.proofs.Common.{◌≡◌, ◌-◌, ◌/◌, length, rules}
+use Rattle.std.proofs.Common.{◌≡◌, ◌-◌, ◌/◌, length}
 use Rattle.wording.proofs.waveform.say_actions.Given as goal
 
 abbrev pub invariant-loop-i : goal.invariant-loop-i
