@@ -22,6 +22,8 @@ use Rattle.commands.specs.Legality.{legality_of}
 use Rattle.decisions.specs.Rejections.{reads_configuration, rejected_clause}
 use Rattle.commands.specs.declared.Legality.{Legality}
 use Rattle.commands.specs.declared.Legality.TheVariants.{Legal, Rejected}
+use Rattle.registers.specs.Registers.{with_received}
+use Rattle.signals.specs.Waveforms.{wave_of}
 use Rattle.decisions.specs.Changes.{changed}
 use Rattle.decisions.specs.Effects.{said_of, effect_from, carried_out}
 use Rattle.decisions.specs.Events.{clause_of, command_decided, command_decision}
@@ -38,8 +40,14 @@ DecisionAgrees s (g.Rejected w) d = ((r : State) (x : ℕ) → codes_of (said_of
 -- the view does not have what a decision's carrying out adds: a received packet and ERROR
 pub carried_agrees : (s : State) (t : Scanned) (d : Decision) (ss : List ℕ) (m : ℕ) → DecisionAgrees s t d → Agree t (codes_of (carried_out s d ss m).said) (view_of s) (view_of (carried_out s d ss m).state)
 unfolding effect_from
-carried_agrees s (g.Accepted v) d ss m h = (accepting_said _ _ d.answer h.0, h.1)
-carried_agrees s (g.Rejected w) d ss m h = (h.0 _ _, h.1)
+carried_agrees s (g.Accepted v) d ss m h =
+    let t = changed s d.change in
+    let w = wave_of t.page d.wave ss m in
+    (accepting_said (with_received t w.packet) w.byte d.answer h.0, h.1)
+carried_agrees s (g.Rejected w) d ss m h =
+    let t = changed s d.change in
+    let w = wave_of t.page d.wave ss m in
+    (h.0 (with_received t w.packet) w.byte, h.1)
 
 module _ (s : State) where
   returns_code : (w : ℕ) → DecisionAgrees s (g.Rejected w) (returns w)

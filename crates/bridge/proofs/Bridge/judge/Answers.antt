@@ -22,7 +22,7 @@ pub returns-then-not-is_idle-s : goal.returns-then-not-is_idle-s
 unfolding judgement_of
 returns-then-not-is_idle-s c =
     let s = c.args.self.state in
-    let busy = not-true (c.is_idle.result && not s.drop) c.if-not-is_idle-s.true in
+    let busy = c.if-not-is_idle-s.true in
     rw (sym c.in_range.ensures ∙ c.if-not-in_range.false, tested s c.is_idle.ensures busy)
 
 pub context-requires : goal.context-requires
@@ -34,5 +34,5 @@ pub returns : goal.returns
 unfolding judgement_of
 returns c =
     let s = c.args.self.state in
-    let free = not-false (c.is_idle.result && not s.drop) c.if-not-is_idle-s.false in
+    let free = c.if-not-is_idle-s.false in
     rw (sym c.in_range.ensures ∙ c.if-not-in_range.false, tested s c.is_idle.ensures free, ← c.context.ensures, ← c.judge-v.ensures)
