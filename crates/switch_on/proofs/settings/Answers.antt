@@ -12,8 +12,8 @@ returns-then-not-is_good c =
 
 pub returns-then-not-fits : goal.returns-then-not-fits
 returns-then-not-fits c =
-    none_fit c.args.stored.now c.args.factory.now c.args.room c.args.mark (sym c.is_good.ensures ∙ c.if-not-is_good.false) (sym (same_fit c.args.stored.now c.args.factory.now c.args.room c.args.mark (c.page-page.ensures ∙ ap page_of c.used-used.ensures) c.size.ensures) ∙ sym c.fits2.ensures ∙ c.if-not-fits.true)
+    none_fit c.args.stored.now c.args.factory.now c.args.room c.args.mark (sym c.is_good.ensures ∙ c.if-not-is_good.false) (sym (same_fit c.args.stored.now c.args.factory.now c.args.room c.args.mark (c.page-page.ensures ∙ ap page_of c.used-used.ensures) c.size.ensures) ∙ sym c.fits.ensures ∙ c.if-not-fits.true)
 
 pub returns : goal.returns
 returns c =
-    c.used-used.ensures ∙ some_used c.args.stored.now c.args.factory.now c.args.room c.args.mark (sym c.is_good.ensures ∙ c.if-not-is_good.false) (sym (same_fit c.args.stored.now c.args.factory.now c.args.room c.args.mark (c.page-page.ensures ∙ ap page_of c.used-used.ensures) c.size.ensures) ∙ sym c.fits2.ensures ∙ c.if-not-fits.false)
+    c.used-used.ensures ∙ some_used c.args.stored.now c.args.factory.now c.args.room c.args.mark (sym c.is_good.ensures ∙ c.if-not-is_good.false) (sym (same_fit c.args.stored.now c.args.factory.now c.args.room c.args.mark (c.page-page.ensures ∙ ap page_of c.used-used.ensures) c.size.ensures) ∙ sym c.fits.ensures ∙ c.if-not-fits.false)

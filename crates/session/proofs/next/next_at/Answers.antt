@@ -15,22 +15,22 @@ returns-then-session-gt-MOST_SESSION c =
 pub slice_bounds-next_in-count : goal.slice_bounds-next_in-count
 unfolding next_of
 slice_bounds-next_in-count c =
-    omega (arith, rest_within _ _ _ (sym c.record_from-record.ensures ∙ c.«record».given.1))
+    omega (arith, rest_within _ _ _ (sym c.record_from-record.ensures ∙ c.in-Body.is))
 
 pub slice_bounds-next_in-start : goal.slice_bounds-next_in-start
 unfolding next_of
 slice_bounds-next_in-start c =
-    omega (arith, rest_within _ _ _ (sym c.record_from-record.ensures ∙ c.«record».given.1))
+    omega (arith, rest_within _ _ _ (sym c.record_from-record.ensures ∙ c.in-Body.is))
 
 pub slice_bounds-next_in-end : goal.slice_bounds-next_in-end
 unfolding next_of
 slice_bounds-next_in-end c =
-    omega (arith, rest_within _ _ _ (sym c.record_from-record.ensures ∙ c.«record».given.1))
+    omega (arith, rest_within _ _ _ (sym c.record_from-record.ensures ∙ c.in-Body.is))
 
 pub returns-in-Body : goal.returns-in-Body
 unfolding next_of
 returns-in-Body c =
-    rw (le-leb _ _ c.if-session-gt-MOST_SESSION.false, ← c.record_from-record.ensures, c.«record».given.1) c.next_in.ensures
+    rw (le-leb _ _ c.if-session-gt-MOST_SESSION.false, ← c.record_from-record.ensures, c.in-Body.is) c.next_in.ensures
 
 pub returns-in-End : goal.returns-in-End
 unfolding next_of

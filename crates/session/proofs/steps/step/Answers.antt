@@ -1,5 +1,6 @@
 -- The session's size, a refusal, the end, or a body.
 use borrow.Author.Rules.{rules}
+use borrow.Enum.Refused.{opened}
 use mathlib.Core.Path.{sym, ◌∙◌}
 use native.Mathlib.Omega.{arith}
 use Rattle.records.proofs.Bodies.{rest_within}
@@ -35,11 +36,11 @@ pub returns-in_default : goal.returns-in_default
 returns-in_default c =
     let a = c.args in
     goes_step a.budget a.session.now a.c a.out.now c.requires.0 c.requires.1 c.requires.2
-    (ran_by (step_as a.session.now a.c c.if-session-gt-MOST_SESSION.false (sym c.record_from-record.ensures) ∙ ends a.session.now a.c c.record_from-record.result c.in_default.in_default-own.keys2 c.in_default-record.keys2) c.last.ensures)
+    (ran_by (step_as a.session.now a.c c.if-session-gt-MOST_SESSION.false (sym c.record_from-record.ensures) ∙ ends a.session.now a.c c.record_from-record.result (opened c.in_default.in_default-own.keys2) (opened c.in_default-record.in_default-record-own.keys2)) c.last.ensures)
 
 pub take_body-requires : goal.take_body-requires
 take_body-requires c =
     let a = c.args in
-    let q = sym c.record_from-record.ensures ∙ c.«record».given.1 in
+    let q = sym c.record_from-record.ensures ∙ c.in-Body.is in
     let w = rest_within a.session.now a.c.at a.c.end q in
     (record { size = c.if-session-gt-MOST_SESSION.false; live = c.requires.0; more = c.requires.1; room = c.requires.2 }, w.0, w.1, step_as a.session.now a.c c.if-session-gt-MOST_SESSION.false q)

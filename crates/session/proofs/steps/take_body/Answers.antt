@@ -1,5 +1,6 @@
 -- By its content: a refusal, samples, no event, or events.
 use borrow.Author.Rules.{rules}
+use borrow.Enum.Refused.{opened}
 use mathlib.Core.Path.{sym, ◌∙◌}
 use native.Mathlib.Omega.{arith}
 use Rattle.session.proofs.Playing.{body_stops, body_samples, body_empty, body_enters}
@@ -17,7 +18,7 @@ returns-in-Refused c =
 pub returns-in_default : goal.returns-in_default
 returns-in_default c =
     let a = c.args in
-    rw (c.pass.ensures, c.standing.ensures) (body_samples a.budget a.session.now a.c a.kind a.start a.end a.out.now c.requires.0 c.requires.1 c.requires.2 c.requires.3 _ (sym c.content_of-content.ensures) c.in_default.in_default-own.keys2 c.in_default-content.keys2)
+    rw (c.pass.ensures, c.standing.ensures) (body_samples a.budget a.session.now a.c a.kind a.start a.end a.out.now c.requires.0 c.requires.1 c.requires.2 c.requires.3 _ (sym c.content_of-content.ensures) (opened c.in_default.in_default-own.keys2) (opened c.in_default-content.in_default-content-own.keys2))
 
 pub returns-then-start-end : goal.returns-then-start-end
 returns-then-start-end c =

@@ -2,7 +2,6 @@
 use borrow.Author.Rules.{rules}
 use borrow.Author.Tests.{not-true, not-false}
 use mathlib.Core.Path.{sym, ◌∙◌}
-use lib.ListN.{length-map}
 use Rattle.registers.specs.Ranges.{Sized}
 use Rattle.transcript.proofs.Carried.{event_refused, actions_fit, says_size, replies_fit, event_accepted}
 use Rattle.transcript.proofs.events.take_event.Goals as goal
@@ -14,15 +13,15 @@ sized c =
     let page = c.well_formed.0.1.1.1.1.1.0 in
     let shared = c.well_formed.0.1.1.1.0 in
     record {
-      eprom = sym (length-map c.args.s.shared.eprom _) ∙ shared.1.1.1.1.1.0.1.0.1;
-      serial = sym (length-map c.args.s.shared.serial _) ∙ shared.1.1.1.0.1.0.1;
-      packet = sym (length-map c.args.s.page.packet _) ∙ page.1.1.1.1.0.1.0.1;
-      timings = sym (length-map c.args.s.page.timings _) ∙ page.1.1.1.1.1.1.1.1.1.1.0.1.0.1;
+      eprom = shared.1.1.1.1.1.0.1.0.1;
+      serial = shared.1.1.1.0.1.0.1;
+      packet = page.1.1.1.1.0.1.0.1;
+      timings = page.1.1.1.1.1.1.1.1.1.1.0.1.0.1;
     }
 
 pub returns-then-not-fits : goal.returns-then-not-fits
 returns-then-not-fits c =
-    event_refused c.args.s c.args.event c.args.samples.now c.args.out.now c.requires.0 (sized (goal.at.returns-then-not-fits c).Start) c.requires.1 c.measure-r.result c.measure-r.ensures (sym c.fits2.ensures ∙ c.if-not-fits.true) c.short.ensures
+    event_refused c.args.s c.args.event c.args.samples.now c.args.out.now c.requires.0 (sized (goal.at.returns-then-not-fits c).Start) c.requires.1 c.measure-r.result c.measure-r.ensures (sym c.fits.ensures ∙ c.if-not-fits.true) c.short.ensures
 
 pub put_actions-at-requires : goal.put_actions-at-requires
 put_actions-at-requires c =
@@ -34,4 +33,4 @@ put_replies-written-requires c =
 
 pub returns : goal.returns
 returns c =
-    event_accepted c.args.s c.args.event c.args.samples.now c.args.out.now c.requires.0 (sized (goal.at.returns c).Start) c.requires.1 c.measure-r.result c.measure-r.ensures c.put_actions-at.ensures c.put_replies-written.ensures (sym c.fits2.ensures ∙ c.if-not-fits.false)
+    event_accepted c.args.s c.args.event c.args.samples.now c.args.out.now c.requires.0 (sized (goal.at.returns c).Start) c.requires.1 c.measure-r.result c.measure-r.ensures c.put_actions-at.ensures c.put_replies-written.ensures (sym c.fits.ensures ∙ c.if-not-fits.false)

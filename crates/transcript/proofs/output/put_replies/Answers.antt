@@ -12,4 +12,4 @@ returns-then-size-eq0 c =
 
 pub returns : goal.returns
 returns c =
-    rw (ne_eqb _ _ (λ e. c.if-size-eq0.false (c.requires.1 ∙ e))) (record_from_lem _ _ 0x0101 _ c.requires.1 c.put_head-n.ensures (written_after c.put_head-n.new.0 c.put_head-n.result c.put_reply.ensures refl))
+    rw (ne_eqb _ _ (λ e. c.if-size-eq0.false (c.requires.1 ∙ e))) (record_from_lem _ _ 0x0101 _ c.requires.1 c.put_head-n.ensures (written_after c.put_head-n.new.out c.put_head-n.result c.put_reply.ensures refl))
