@@ -1,4 +1,6 @@
 // The bridge: one call for an event, and the judge's call.
+#![tactic(auto)]
+
 ghost use Rattle.std.specs.Prelude.{◌≡◌, ◌/◌};
 ghost use Rattle.registers.specs.Ranges.{InRange};
 ghost use Rattle.effects.specs.Returning.{codes_in};

@@ -1,4 +1,6 @@
 // Changes of the state, made: one call, so that the state goes through one place and not through every command.
+#![tactic(auto)]
+
 ghost use Rattle.std.specs.Prelude.{◌≡◌, ◌<◌};
 ghost use Rattle.packet.specs.Packet.{width};
 ghost use Rattle.registers.specs.Registers.{with_page, ended};

@@ -1,4 +1,6 @@
 // Device codes: each by its name, and in words.
+#![tactic(auto)]
+
 ghost use Rattle.std.specs.Prelude.{◌≡◌};
 ghost use Rattle.codes.specs.Codes.{words_of};
 

@@ -1,4 +1,6 @@
 // The commands that 01 lists: which byte is which, and whether a command is legal.
+#![tactic(auto)]
+
 pub mod checks;
 pub mod decoding;
 

@@ -1,4 +1,6 @@
 // What an event decides: what it changes, which waveform it makes, and what it answers.
+#![tactic(auto)]
+
 ghost use Rattle.std.specs.Prelude.{◌≡◌};
 ghost use Rattle.registers.specs.Ranges.{InRange};
 ghost use Rattle.decisions.specs.Events.{decision_of, drop_after};

@@ -1,4 +1,6 @@
 // The effects of a decision's answer: what is left in ERROR, what is sent, and the codes returned.
+#![tactic(auto)]
+
 pub mod replies;
 pub mod returning;
 pub mod sending;

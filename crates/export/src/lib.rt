@@ -1,4 +1,6 @@
 // What C links: include/bridge.h. A state goes by its bytes, and every answer but the number by a pointer.
+#![tactic(auto)]
+
 ghost use Rattle.std.specs.Prelude.{◌≡◌};
 ghost use Rattle.bridge.specs.Answering.{lent};
 ghost use Rattle.export.specs.Exported.{start_call, start_gives, step_call, step_gives, judge_answer, judge_gives, device_of, switch_call, switch_gives};

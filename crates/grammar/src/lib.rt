@@ -1,4 +1,6 @@
 // The grammar of command streams, and the judge that decides it.
+#![tactic(auto)]
+
 ghost use Rattle.std.specs.Prelude.{◌≡◌};
 ghost use Rattle.grammar.specs.Grammar.{cleared_context};
 ghost use Rattle.grammar.specs.Verdict.{judge_of};

@@ -1,4 +1,6 @@
 // The waveforms of I2C: what each measures with the samples from a place on, and its writer at the front of a lent buffer.
+#![tactic(auto)]
+
 ghost use Rattle.std.specs.Prelude.{◌≡◌, ◌+◌, ◌≤◌, length};
 ghost use Rattle.wire.specs.Action.{bytes_of};
 ghost use Rattle.wire.specs.Buffer.{Written};

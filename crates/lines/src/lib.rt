@@ -1,5 +1,7 @@
 // What the waveforms of all buses share: the measure of one before it is written, the verb for a bit, and what samples give; and the
 // waveforms of single lines and ports.
+#![tactic(auto)]
+
 ghost use Rattle.std.specs.Prelude.{◌≡◌, ◌≤◌, length};
 ghost use Rattle.wire.specs.Sample.{byte_at};
 ghost use Rattle.lines.specs.Lines.{verb_for, levels, byte_of};

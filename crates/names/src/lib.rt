@@ -1,4 +1,6 @@
 // The commands of the list 001 by name and code: 74 rows in 01's order. 01 leaves out the extended commands 00 and 04 to 07.
+#![tactic(auto)]
+
 ghost use Rattle.std.specs.Prelude.{◌≡◌};
 ghost use Rattle.names.specs.Names.{name_at, code_at, is_extended, row_coded};
 

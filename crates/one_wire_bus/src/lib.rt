@@ -1,4 +1,6 @@
 // The waveforms of 1-Wire: what each measures with the samples from a place on, and its writer at the front of a lent buffer.
+#![tactic(auto)]
+
 ghost use Rattle.std.specs.Prelude.{◌≡◌, ◌+◌, ◌-◌, ◌≤◌, ◌<◌, [], ◌∷◌, length, take};
 ghost use Rattle.wire.specs.Action.{action, bytes_of, release, dq};
 ghost use Rattle.wire.specs.Buffer.{Written};

@@ -1,5 +1,7 @@
 // The packet register: an array of bytes by value, REG0 highest. In 01's words n is N, the size in bits, and high is bit 2
 // of CONFIG_SPI.
+#![tactic(auto)]
+
 ghost use Rattle.std.specs.Prelude.{◌≡◌, true, cond, ◌+◌, ◌-◌, ◌/◌, ◌%◌, ◌^◌, ◌<◌, ◌≤◌, min, [], ◌∷◌, get_or, length};
 ghost use Rattle.packet.specs.Register.{bits};
 ghost use Rattle.packet.specs.Packet.{width, register_bytes, size_register, size_of, packet_bytes, from_held, cleared, aligned, loaded, sent_at, low_bytes};

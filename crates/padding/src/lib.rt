@@ -1,4 +1,6 @@
 // Texts in tables, padded with blanks to one width.
+#![tactic(auto)]
+
 ghost use Rattle.std.specs.Prelude.{◌≡◌};
 ghost use Rattle.padding.specs.Padding.{trimmed_of};
 

@@ -1,4 +1,6 @@
 // The refusals of 01 in its order, each with its number and in words.
+#![tactic(auto)]
+
 ghost use Rattle.std.specs.Prelude.{◌≡◌};
 ghost use Rattle.refusals.specs.Refusals.{number_of, words_of};
 

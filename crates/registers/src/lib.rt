@@ -1,4 +1,6 @@
 // The state: one page of registers, what is shared, the wait with the bytes held for it, and whether the next byte is dropped.
+#![tactic(auto)]
+
 ghost use Rattle.std.specs.Prelude.{◌≡◌};
 ghost use Rattle.registers.specs.Registers.{fault_code, bits_of, is_idle};
 ghost use Rattle.registers.specs.Ranges.{operand_fits, wait_fits, page_fits, drop_fits, state_fits};

@@ -1,4 +1,6 @@
 // Images of settings: the image of a page, whether an image is good, the page of an image, and the factory image.
+#![tactic(auto)]
+
 ghost use Rattle.std.specs.Prelude.{◌≡◌};
 ghost use Rattle.settings.specs.Images.{image_tail, image_mark, image_of, good_registers, good_tail, is_good, spi_byte, page_of};
 

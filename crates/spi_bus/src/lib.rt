@@ -1,4 +1,6 @@
 // SPI: what an exchange measures and gives, and its writer.
+#![tactic(auto)]
+
 ghost use Rattle.std.specs.Prelude.{◌≡◌, ◌≤◌, ◌<◌, length, ◌∷◌};
 ghost use Rattle.wire.specs.Action.{bytes_of, sck};
 ghost use Rattle.wire.specs.Buffer.{Written};

@@ -1,4 +1,6 @@
 // Switch-on: a bridge made from stored settings.
+#![tactic(auto)]
+
 ghost use Rattle.std.specs.Prelude.{◌≡◌, []};
 ghost use Rattle.packet.specs.Register.{zeros};
 ghost use Rattle.switch_on.specs.Start.{starting};

@@ -1,4 +1,6 @@
 // The transcript of a replay: an event taken and its records written, one event or one after another, and the last record.
+#![tactic(auto)]
+
 pub mod events;
 pub mod output;
 

@@ -20,4 +20,4 @@ returns-in-Refused c =
 
 pub returns-in-Judged : goal.returns-in-Judged
 returns-in-Judged c =
-    judge_judged c.args.state.now c.args.bytes.now c.args.verdict.now c.args.place.now c.args.code.now (sym c.is_state.ensures ∙ c.if-not-is_state.false) c.state_of-s.ensures c.judge-j.ensures c.in-Judged.is c.verdict_number.ensures c.place_of.ensures c.Code_in.ensures
+    judge_judged c.args.state.now c.args.bytes.now c.args.verdict.now c.args.place.now c.args.code.now (sym c.is_state.ensures ∙ c.if-not-is_state.false) c.state_of-s.ensures c.judge-j.ensures c.in-Judged.is c.verdict_number.ensures c.place_of.ensures c.code_in.ensures

@@ -12,7 +12,7 @@ use Rattle.packet.proofs.put_low.Goals.{After-low-1}
 
 low_taken : (c : After-low-1) → take c.low_count-count.result c.load-low.result ≡ low_bytes c.args.n c.args.r
 low_taken c =
-        low_bytes_lem register_bytes c.args.n _ c.args.r _ c.well_formed.1.0.1.0.1 c.load-low.ensures c.low_count-count.ensures
+    low_bytes_lem register_bytes c.args.n _ c.args.r _ c.well_formed.1.0.1.0.1 c.load-low.ensures c.low_count-count.ensures
 
 pub slice_bounds-put_bytes-end : goal.slice_bounds-put_bytes-end
 slice_bounds-put_bytes-end c =
