@@ -1,5 +1,7 @@
 // What is wrong with a script, in words, on a descriptor that the caller names. No contract here says what is written: a call to
 // the system has none that could say it. The program `scripts` compares it.
+#![tactic(auto)]
+
 use text::Expected;
 
 fn say(fd: i32, text: &[u8]) {

@@ -1,4 +1,6 @@
 // A script, which is a text, made into the records of a session.
+#![tactic(auto)]
+
 ghost use Rattle.std.specs.Prelude.{◌≡◌, ◌-◌, ◌≤◌, length};
 ghost use Rattle.text.specs.Lists.{Reads};
 ghost use Rattle.script.specs.Parsed.{meant, InBuffer};

@@ -1,4 +1,6 @@
 // The text of a script: its words, what a word can say, its lists of bytes, and where a place of it stands.
+#![tactic(auto)]
+
 pub mod lists;
 pub mod named;
 mod numbers;

@@ -1,5 +1,7 @@
 // The value changes of a dump as text, which is collected in a lent buffer, so that an event is written by one call. What goes to
 // standard output no contract can say; each says what is collected then.
+#![tactic(auto)]
+
 ghost use Rattle.std.specs.Prelude.{◌≡◌, false, ◌<◌, length};
 ghost use Rattle.value_changes.specs.Collected.{collect, collect_all};
 ghost use Rattle.value_changes.specs.Rows.{Timed, level_row, register_row, bit_row, bit_rows};

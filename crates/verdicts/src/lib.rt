@@ -1,4 +1,6 @@
 // The judge's verdicts in words.
+#![tactic(auto)]
+
 ghost use Rattle.std.specs.Prelude.{◌≤◌, length, ◌≡◌};
 ghost use Rattle.grammar.specs.declared.Verdict.TheVariants.{Wrong};
 ghost use Rattle.verdicts.specs.Lines.{code_end, LineWritten};
