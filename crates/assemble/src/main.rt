@@ -1,25 +1,27 @@
 // Makes a session of a script, which is read from standard input or from the file that the argument names, and writes it to standard output.
 // A script that is wrong gets a line on standard error, and nothing is written.
 use input::Input;
-use libc::{STDERR_FILENO, STDOUT_FILENO};
 use text::Stop;
 
-fn to_go_on() -> bool {
+const STDERR_FILENO: i32 = 2;
+
+fn to_go_on(rt: &HostRuntime) -> bool {
     input::goes_on(
+        rt,
         b"usage: assemble [FILE]\nWrites the script in FILE, or in standard input, as a session to standard output.\n",
         b"",
     )
 }
 
-fn write(text: &[u8]) {
+fn write(rt: &HostRuntime, text: &[u8]) {
     let mut session = [0u8; 32768];
     let r = script::assemble(text, &mut session);
     let stop = r.stop;
     match stop {
         Stop::Done => {
             let n = r.size;
-            if !io::write_all(STDOUT_FILENO, &session[..n]) {
-                os::fail(b"standard output");
+            if let Err(why) = rt.write_all(&session[..n]) {
+                input::fail(rt, b"standard output", why);
             }
         }
         Stop::Wrong { place, expected } => explain::explain(STDERR_FILENO, text, place, expected),
@@ -27,14 +29,14 @@ fn write(text: &[u8]) {
 }
 
 // A script may be eight times as long as the longest session.
-fn main() {
-    if !to_go_on() {
+fn main(rt: HostRuntime) {
+    if !to_go_on(&rt) {
         return;
     }
     let mut text = [0u8; 262144];
-    let Input::Whole(n) = input::read_shorter(&mut text, b"assemble: more than 262,143 bytes\n")
+    let Input::Whole(n) = input::read_shorter(&rt, &mut text, b"assemble: more than 262,143 bytes\n")
     else {
         return;
     };
-    write(&text[..n]);
+    write(&rt, &text[..n]);
 }

@@ -9,8 +9,9 @@ use input::Input;
 use records::reading::joined;
 use text::say;
 
-fn to_go_on() -> bool {
+fn to_go_on(rt: &HostRuntime) -> bool {
     input::goes_on(
+        rt,
         b"usage: cases [FILE]\nAnswers each stored case of a judge, a switch-on or a replay in FILE, or in standard input.\n",
         b"",
     )
@@ -40,12 +41,12 @@ fn show_all(file: &[u8]) {
     }
 }
 
-fn main() {
-    if !to_go_on() {
+fn main(rt: HostRuntime) {
+    if !to_go_on(&rt) {
         return;
     }
     let mut file = io::large_buffer();
-    let Input::Whole(n) = input::read_shorter(&mut file, b"cases: more than 65,535 bytes\n") else {
+    let Input::Whole(n) = input::read_shorter(&rt, &mut file, b"cases: more than 65,535 bytes\n") else {
         return;
     };
     show_all(&file[..n]);

@@ -1,5 +1,5 @@
 // Text on standard output.
-use libc::STDOUT_FILENO;
+const STDOUT_FILENO: i32 = 1;
 
 pub(crate) fn say(text: &[u8]) {
     io::write_all(STDOUT_FILENO, text);

@@ -91,15 +91,16 @@ fn drive(input: &[u8]) {
     }
 }
 
-fn to_go_on() -> bool {
+fn to_go_on(rt: &HostRuntime) -> bool {
     input::goes_on(
+        rt,
         b"usage: drive\nPuts the events of standard input through the bridge's call and writes what each call answers.\n",
         b"",
     )
 }
 
-fn main() {
-    if !to_go_on() {
+fn main(rt: HostRuntime) {
+    if !to_go_on(&rt) {
         return;
     }
     let mut events = io::large_buffer();

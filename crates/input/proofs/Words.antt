@@ -6,22 +6,23 @@ use mathlib.Core.List.{List, [], ◌∷◌}
 use mathlib.Core.Logic.{◌⊎◌, inl, inr}
 use native.Mathlib.Nat.{not-suc-le-zero}
 use native.Mathlib.Omega.{arith}
+use borrow.Author.Tests.{ne_eqb}
+use Rattle.std.proofs.Common.{eq-eqb, add-one}
 use lib.Dec.{eqb}
-use lib.ListN.{length, take, drop, length-drop, drop_of_length-le}
-use lib.Seq.{take-length, drop-drop}
-use Rattle.bytes.specs.Bytes.{index_after, index_of, slice}
-use Rattle.input.specs.Arguments.{with_first, split_at_spaces, Among}
+use lib.ListN.{length, take, drop, get_or, length-drop, drop_of_length-le}
+use lib.Seq.{drop-cons, drop-drop}
+use Rattle.input.specs.Arguments.{with_first, split_at_spaces, index_of, Among}
 
 abbrev FirstWord : List ℕ → Type 0
 FirstWord l = split_at_spaces l ≡ take (index_of 0x20 l) l ∷ split_at_spaces (drop (suc (index_of 0x20 l)) l)
 
 one_byte : (x : ℕ) (b : Bool) → eqb x 0x20 ≡ b → FirstWord (x ∷ [])
-unfolding split_at_spaces with_first index_of index_after
+unfolding split_at_spaces with_first index_of
 one_byte x true e = rw e refl
 one_byte x false e = rw e refl
 
 one_more : (x : ℕ) (l : List ℕ) → FirstWord l → (b : Bool) → eqb x 0x20 ≡ b → FirstWord (x ∷ l)
-unfolding split_at_spaces with_first index_of index_after
+unfolding split_at_spaces with_first index_of
 one_more x l f true e = rw e refl
 one_more x l f false e = rw (e, f) refl
 
@@ -35,17 +36,13 @@ words_first (x ∷ xs) h = first_word x xs
 
 -- how far a word goes that starts at a place
 abbrev pub reach : List ℕ → ℕ → ℕ
-reach l at = index_of 0x20 (slice at (length l) l)
-
-reach_is : (l : List ℕ) (at : ℕ) → reach l at ≡ index_of 0x20 (drop at l)
-unfolding slice
-reach_is l at = ap (λ (x : List ℕ). index_of 0x20 (drop at x)) (take-length l)
+reach l at = index_of 0x20 (drop at l)
 
 -- the word at a place within the list, and the words after it
 pub words_at : (l : List ℕ) (at end : ℕ) → at < length l → end ≡ at + reach l at → split_at_spaces (drop at l) ≡ take (end - at) (drop at l) ∷ split_at_spaces (drop (end + 1) l)
 words_at l at end h e =
     words_first (drop at l) (rw length-drop (omega arith))
-    ∙ ap (λ (n : ℕ). take n (drop at l) ∷ split_at_spaces (drop (suc n) (drop at l))) (sym (reach_is l at) ∙ size)
+    ∙ ap (λ (n : ℕ). take n (drop at l) ∷ split_at_spaces (drop (suc n) (drop at l))) size
     ∙ ap (λ (r : List ℕ). take (end - at) (drop at l) ∷ split_at_spaces r) (drop-drop (suc (end - at)) at l ∙ ap (λ (n : ℕ). drop n l) after)
   where
     size : reach l at ≡ end - at
@@ -53,6 +50,25 @@ words_at l at end h e =
 
     after : at + suc (end - at) ≡ end + 1
     after = omega (arith, e)
+
+-- THE TURN of a search for a byte: it is the one at the place, or, if it is not, one of those after it
+byte_here : (b x : ℕ) (l : List ℕ) → x ≡ b → index_of b (x ∷ l) ≡ 0
+unfolding index_of
+byte_here b x l e = rw (eq-eqb x b e) refl
+
+byte_later : (b x : ℕ) (l : List ℕ) → eqb x b ≡ false → index_of b (x ∷ l) ≡ suc (index_of b l)
+unfolding index_of
+byte_later b x l e = rw e refl
+
+pub place_here : (b : ℕ) (l : List ℕ) (i : ℕ) → i < length l → get_or l i 0 ≡ b → index_of b (drop i l) ≡ 0
+place_here b l i h e = rw (drop-cons l i 0) (byte_here b (get_or l i 0) (drop (suc i) l) e)
+
+pub place_later : (b : ℕ) (l : List ℕ) (i : ℕ) → i < length l → (get_or l i 0 ≡ b → ⊥) → index_of b (drop i l) ≡ suc (index_of b (drop (i + 1) l))
+place_later b l i h e = rw (add-one, drop-cons l i 0) (byte_later b (get_or l i 0) (drop (suc i) l) (ne_eqb (get_or l i 0) b e))
+
+pub place_none : (b : ℕ) (l : List ℕ) (i : ℕ) → length l ≤ i → index_of b (drop i l) ≡ 0
+unfolding index_of
+place_none b l i h = rw (drop_of_length-le l h) refl
 
 -- THE TURN of a search for a word: it is the one at the place, or, if it is not, one of those after it
 module _ (l w : List ℕ) (at end : ℕ) (h : at < length l) (e : end ≡ at + reach l at) where

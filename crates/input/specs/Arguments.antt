@@ -1,5 +1,5 @@
 -- What an argument is by its bytes, beside a list of a program's options. Which arguments there are, only the system knows.
-use Rattle.std.specs.Prelude.{ℕ, ◌≡◌, Bool, true, false, cond, List, [], ◌∷◌, ◌⊎◌, eqb, get_or}
+use Rattle.std.specs.Prelude.{ℕ, suc, ◌≡◌, Bool, true, false, cond, List, [], ◌∷◌, ◌⊎◌, eqb, get_or}
 pub use Rattle.input.specs.declared.arguments.Kind.{Kind}
 use Rattle.input.specs.declared.arguments.Kind.TheVariants as k
 
@@ -12,6 +12,11 @@ with_first b (w ∷ ws) = (b ∷ w) ∷ ws
 unfoldable pub split_at_spaces : List ℕ → List (List ℕ)
 split_at_spaces [] = []
 split_at_spaces (b ∷ bs) = cond (eqb b 0x20) ([] ∷ split_at_spaces bs) (with_first b (split_at_spaces bs))
+
+-- the place of the first such byte, or the end
+unfoldable pub index_of : ℕ → List ℕ → ℕ
+index_of b [] = 0
+index_of b (x ∷ xs) = cond (eqb x b) 0 (suc (index_of b xs))
 
 -- a word is one of these
 unfoldable pub Among : List ℕ → List (List ℕ) → Type 0

@@ -1,9 +1,14 @@
 // The arguments of a program: options, which start with `-`, and at most one name of a file. What a word is by its bytes is proved. Which
-// words the arguments are, the contracts of the system's calls don't say, so a function that asks for them has no contract.
-ghost use Rattle.std.specs.Prelude.{◌≡◌};
-ghost use Rattle.input.specs.Arguments.{Among, split_at_spaces, Tells, is_option, IsKind};
+// words the arguments are, the contracts of the system's calls don't say, so a function that asks for them says of them only how long a word is.
+ghost use Rattle.std.specs.Prelude.{◌≡◌, ◌+◌, ◌≤◌, length, drop};
+ghost use Rattle.io.specs.Counts.{IsPrefixLen};
+ghost use Rattle.input.specs.Arguments.{Among, split_at_spaces, index_of, Tells, is_option, IsKind};
 
-use libc::{STDERR_FILENO, STDOUT_FILENO};
+use std::env::{Env, FillError};
+
+const STDOUT_FILENO: i32 = 1;
+
+const STDERR_FILENO: i32 = 2;
 
 // What an argument can be, beside a list of options.
 #[derive(Clone, Copy)]
@@ -13,13 +18,29 @@ pub(crate) enum Kind {
     Unknown,
 }
 
+// The place of the first such byte from a place on, or the end.
+fn find(bytes: &[u8], at: usize, byte: u8) -> usize
+    requires { at ≤ length bytes.now }
+    ensures place { result ≡ at + index_of byte (drop at bytes.now) }
+    ensures within { result ≤ length bytes.now }
+{
+    let mut i = at;
+    while i < bytes.len() {
+        if bytes[i] == byte {
+            return i;
+        }
+        i += 1;
+    }
+    i
+}
+
 // Whether a list of words, each one but the last followed by a space, has a word.
 fn has_word(list: &[u8], word: &[u8]) -> bool
     ensures { Tells result (Among word.now (split_at_spaces list.now)) }
 {
     let mut at: usize = 0;
     while at < list.len() {
-        let end = bytes::scan::find(list, at, list.len(), b' ');
+        let end = find(list, at, b' ');
         if check::same(&list[at..end], word) {
             return true;
         }
@@ -47,67 +68,81 @@ fn is_kind(word: &[u8], kind: Kind, options: &[u8]) -> bool
     }
 }
 
-// An argument that is missing or too long counts as empty, which is a name.
-fn is_kind_at(place: usize, kind: Kind, options: &[u8]) -> bool {
+// Puts an argument at the start of the buffer. One that is missing or too long counts as empty, which is a name.
+pub(crate) fn argument(rt: &impl Env, place: usize, word: &mut [u8]) -> usize
+    ensures { IsPrefixLen result word.new }
+{
+    match rt.arg(place, word) {
+        Ok(n) => n,
+        Err(_) => 0,
+    }
+}
+
+fn is_kind_at(rt: &impl Env, place: usize, kind: Kind, options: &[u8]) -> bool {
     let mut word = io::buffer();
-    let n = os::arg(place, &mut word);
+    let n = argument(rt, place, &mut word);
     is_kind(&word[..n], kind, options)
 }
 
-// The place of the first argument of a kind from a place on, or how many there are.
-pub(crate) fn first(from: usize, kind: Kind, options: &[u8]) -> usize {
-    let count = os::arg_count();
-    let mut i = from;
-    while i < count {
-        if is_kind_at(i, kind, options) {
-            return i;
-        }
-        i += 1;
+// One that does not fit is given too.
+pub(crate) fn is_given(rt: &impl Env, place: usize) -> bool {
+    let mut word = [0u8; 1];
+    match rt.arg(place, &mut word) {
+        Ok(_) | Err(FillError::TooLong) => true,
+        Err(FillError::NotPresent) => false,
     }
-    count
 }
 
-fn is_given(place: usize) -> bool {
-    place < os::arg_count()
+// The place of the first argument of a kind from a place on, or how many there are.
+pub(crate) fn first(rt: &impl Env, from: usize, kind: Kind, options: &[u8]) -> usize {
+    for i in from..usize::MAX {
+        if !is_given(rt, i) {
+            return i;
+        }
+        if is_kind_at(rt, i, kind, options) {
+            return i;
+        }
+    }
+    usize::MAX
 }
 
 // Whether the program was started with an option. A contract could only speak of the arguments, so there is none.
-pub fn option(name: &[u8]) -> bool {
-    is_given(first(1, Kind::Known, name))
+pub fn option(rt: &impl Env, name: &[u8]) -> bool {
+    is_given(rt, first(rt, 1, Kind::Known, name))
 }
 
 // Says on standard error that an argument is not understood, and how the program is used.
-fn refuse(place: usize, usage: &[u8]) {
+fn refuse(rt: &impl Env, place: usize, usage: &[u8]) {
     let mut word = io::buffer();
-    let n = os::arg(place, &mut word);
+    let n = argument(rt, place, &mut word);
     io::write_all(STDERR_FILENO, &word[..n]);
     io::write_all(STDERR_FILENO, b": unknown argument\n");
     io::write_all(STDERR_FILENO, usage);
 }
 
 // The place of the first argument that is neither one of the options nor the first name.
-fn first_unknown(options: &[u8]) -> usize {
-    let unknown = first(1, Kind::Unknown, options);
-    if is_given(unknown) {
+fn first_unknown(rt: &impl Env, options: &[u8]) -> usize {
+    let unknown = first(rt, 1, Kind::Unknown, options);
+    if is_given(rt, unknown) {
         return unknown;
     }
-    let name = first(1, Kind::Name, options);
-    if name < os::arg_count() {
-        return first(name + 1, Kind::Name, options);
+    let name = first(rt, 1, Kind::Name, options);
+    if is_given(rt, name) {
+        return first(rt, name.saturating_add(1), Kind::Name, options);
     }
     name
 }
 
 // Whether the program is to go on: `--help` is answered with the usage, and an argument that is not known is refused. The options
 // beside `--help` are a list of words with a space between. A contract could only speak of the arguments, so there is none.
-pub fn goes_on(usage: &[u8], options: &[u8]) -> bool {
-    if option(b"--help") {
+pub fn goes_on(rt: &impl Env, usage: &[u8], options: &[u8]) -> bool {
+    if option(rt, b"--help") {
         io::write_all(STDOUT_FILENO, usage);
         return false;
     }
-    let unknown = first_unknown(options);
-    if is_given(unknown) {
-        refuse(unknown, usage);
+    let unknown = first_unknown(rt, options);
+    if is_given(rt, unknown) {
+        refuse(rt, unknown, usage);
         return false;
     }
     true

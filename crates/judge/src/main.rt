@@ -3,7 +3,8 @@
 use bridge::Judgement;
 use grammar::Verdict;
 use input::Input;
-use libc::STDOUT_FILENO;
+
+const STDOUT_FILENO: i32 = 1;
 
 fn say(v: Verdict) {
     let mut line = [0u8; verdicts::ROOM];
@@ -20,19 +21,20 @@ fn answer(bytes: &[u8]) {
     say(v);
 }
 
-fn to_go_on() -> bool {
+fn to_go_on(rt: &HostRuntime) -> bool {
     input::goes_on(
+        rt,
         b"usage: judge [FILE]\nSays of the command bytes in FILE, or in standard input, whether they are whole, open or wrong.\n",
         b"",
     )
 }
 
-fn main() {
-    if !to_go_on() {
+fn main(rt: HostRuntime) {
+    if !to_go_on(&rt) {
         return;
     }
     let mut bytes = io::large_buffer();
-    let Input::Whole(n) = input::read_shorter(&mut bytes, b"judge: more than 65,535 bytes\n") else {
+    let Input::Whole(n) = input::read_shorter(&rt, &mut bytes, b"judge: more than 65,535 bytes\n") else {
         return;
     };
     answer(&bytes[..n]);

@@ -10,43 +10,44 @@ use session::replay::Cursor;
 const CHUNK: usize = 16384;
 
 // One call of the run, and its chunk goes out; a chunk that can't be written ends the replay. The caller shows room for a step.
-fn write_chunk(cursor: Cursor, session: &[u8], out: &mut [u8]) -> Cursor
+fn write_chunk(rt: &HostRuntime, cursor: Cursor, session: &[u8], out: &mut [u8]) -> Cursor
     requires { most_output ≤ length out.old }
     ensures { cursor.done ≡ false → left session.now result < left session.now cursor }
 {
     let r = session::replay::run(cursor, session, out);
     let n = r.written;
     let mut next = r.cursor;
-    if !io::write_all(libc::STDOUT_FILENO, &out[..n]) {
-        os::fail(b"standard output");
+    if let Err(why) = rt.write_all(&out[..n]) {
+        input::fail(rt, b"standard output", why);
         next.done = true;
     }
     next
 }
 
-fn write_transcript(session: &[u8]) {
+fn write_transcript(rt: &HostRuntime, session: &[u8]) {
     let mut out = [0u8; CHUNK];
     let mut cursor = session::replay::start();
     while !cursor.done {
-        cursor = write_chunk(cursor, session, &mut out);
+        cursor = write_chunk(rt, cursor, session, &mut out);
     }
 }
 
-fn to_go_on() -> bool {
+fn to_go_on(rt: &HostRuntime) -> bool {
     input::goes_on(
+        rt,
         b"usage: replay [FILE]\nWrites the transcript of the session in FILE, or in standard input, to standard output.\n",
         b"",
     )
 }
 
 // One byte more than a session may have is enough to refuse it for its size.
-fn main() {
-    if !to_go_on() {
+fn main(rt: HostRuntime) {
+    if !to_go_on(&rt) {
         return;
     }
     let mut session = [0u8; 32769];
-    let Input::Whole(n) = input::read(&mut session) else {
+    let Input::Whole(n) = input::read(&rt, &mut session) else {
         return;
     };
-    write_transcript(&session[..n]);
+    write_transcript(&rt, &session[..n]);
 }

@@ -3,12 +3,14 @@
 ghost use Rattle.std.specs.Prelude.{◌<◌};
 
 use input::Input;
-use libc::STDOUT_FILENO;
 use records::reading::joined;
 use text::Stop;
 
-fn to_go_on() -> bool {
+const STDOUT_FILENO: i32 = 1;
+
+fn to_go_on(rt: &HostRuntime) -> bool {
     input::goes_on(
+        rt,
         b"usage: scripts [FILE]\nAssembles each script in FILE, or in standard input, and says what it makes or what is wrong with it.\n",
         b"",
     )
@@ -76,12 +78,12 @@ fn show_all(file: &[u8]) {
     }
 }
 
-fn main() {
-    if !to_go_on() {
+fn main(rt: HostRuntime) {
+    if !to_go_on(&rt) {
         return;
     }
     let mut file = [0u8; 262144];
-    let Input::Whole(n) = input::read_shorter(&mut file, b"scripts: more than 262,143 bytes\n")
+    let Input::Whole(n) = input::read_shorter(&rt, &mut file, b"scripts: more than 262,143 bytes\n")
     else {
         return;
     };

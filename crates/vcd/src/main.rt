@@ -8,6 +8,8 @@ use dump::Dump;
 use input::Input;
 use records::reading::{Record, record_at};
 
+const STDERR_FILENO: i32 = 2;
+
 // The kinds of a replay's records that the dump shows.
 const ACTIONS: usize = 0x0102;
 
@@ -15,8 +17,9 @@ const LAST: usize = 0x0104;
 
 const REFUSAL: usize = 0x01FF;
 
-fn goes_on() -> bool {
+fn goes_on(rt: &HostRuntime) -> bool {
     input::goes_on(
+        rt,
         b"usage: vcd [--pull-up] [FILE]\nWrites the session in FILE, or in standard input, as a Value Change Dump to standard output.\n--pull-up shows a released line high, and the ports bit by bit.\n",
         b"--pull-up",
     )
@@ -25,7 +28,7 @@ fn goes_on() -> bool {
 // What is collected goes out; text that can't be written ends the dump.
 fn send(mut d: Dump, text: &[u8]) -> Dump {
     if !value_changes::flush(text, d.used) {
-        os::fail(b"standard output");
+        io::write_all(STDERR_FILENO, b"standard output: cannot be written\n");
         d.broken = true;
     }
     d.used = 0;
@@ -110,13 +113,13 @@ fn write_dump(session: &[u8], pull_up: bool) {
 }
 
 // One byte more than a session may have is enough to refuse it for its size.
-fn main() {
-    if !goes_on() {
+fn main(rt: HostRuntime) {
+    if !goes_on(&rt) {
         return;
     }
     let mut session = [0u8; 32769];
-    let Input::Whole(n) = input::read(&mut session) else {
+    let Input::Whole(n) = input::read(&rt, &mut session) else {
         return;
     };
-    write_dump(&session[..n], input::option(b"--pull-up"));
+    write_dump(&session[..n], input::option(&rt, b"--pull-up"));
 }
