@@ -1,4 +1,6 @@
 // The input of a program: its options, and the file that its argument names, or standard input.
+#![tactic(auto)]
+
 mod arguments;
 
 ghost use Rattle.input.specs.Input.{Counted};
