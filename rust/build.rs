@@ -1,4 +1,4 @@
-//! Links `libexport.a`, from the folder named by BRIDGE_LIB or from where `rt staticlib export` puts it.
+//! Links `libexport.a`, from the folder named by BRIDGE_LIB or from where `tools/build export` puts it.
 
 use std::path::PathBuf;
 
@@ -12,10 +12,10 @@ fn main() {
     println!("cargo:rerun-if-changed={}", library.display());
     // The linker takes a relative name from its own folder, not from the caller's.
     let Ok(folder) = folder.canonicalize() else {
-        panic!("no folder {}: run `rt staticlib export`, or name another in BRIDGE_LIB", folder.display());
+        panic!("no folder {}: run `tools/build export`, or name another in BRIDGE_LIB", folder.display());
     };
     if !library.exists() {
-        panic!("no {}: run `rt staticlib export`, or name its folder in BRIDGE_LIB", library.display());
+        panic!("no {}: run `tools/build export`, or name its folder in BRIDGE_LIB", library.display());
     }
     println!("cargo:rustc-link-search=native={}", folder.display());
     println!("cargo:rustc-link-lib=static=export");

@@ -1,5 +1,4 @@
 -- A byte by what is waited for, a fault by its code.
-use borrow.Author.Rules.{rules}
 use Rattle.decisions.proofs.decision_of.Goals as goal
 
 pub returns-in-Byte : goal.returns-in-Byte

@@ -1,5 +1,4 @@
 -- None after a byte; after a fault, if nothing is waited for.
-use borrow.Author.Rules.{rules}
 use Rattle.decisions.proofs.drop_after.Goals as goal
 
 pub returns-in-Byte : goal.returns-in-Byte

@@ -1,12 +1,8 @@
 -- The goals that the search leaves.
 use borrow.Author.Rules.{rules}
-use borrow.Author.Tests.{not-true, not-false}
 use mathlib.Core.Path.{refl, sym, ◌∙◌}
-use Prim.Native.Nat.{◌≤◌, ◌-◌}
 use native.Mathlib.Omega.{arith}
-use lib.ListN.{length}
-use Rattle.grammar.specs.Scanner.{between}
-use Rattle.grammar.proofs.Scans.{ReadTo, standing, turn_wrong, turn_extension, turn_open, turn_item, turn_end}
+use Rattle.grammar.proofs.Scans.{turn_wrong, turn_extension, turn_open, turn_item, turn_end}
 use Rattle.grammar.proofs.judge.Goals as goal
 
 pub loop-i-init : goal.loop-i-init

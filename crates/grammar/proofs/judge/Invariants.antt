@@ -1,12 +1,8 @@
 -- The loop's invariant: the course over all bytes is the course from here over those that are left.
-use borrow.Author.Rules.{rules}
-use borrow.Author.Tests.{not-true, not-false}
-use mathlib.Core.Path.{refl, sym, ◌∙◌}
 use Prim.Native.Nat.{◌≤◌, ◌-◌}
-use native.Mathlib.Omega.{arith}
 use lib.ListN.{length}
 use Rattle.grammar.specs.Scanner.{between}
-use Rattle.grammar.proofs.Scans.{ReadTo, standing, turn_wrong, turn_extension, turn_open, turn_item, turn_end}
+use Rattle.grammar.proofs.Scans.{ReadTo, standing}
 use Rattle.grammar.proofs.judge.Given as goal
 
 abbrev pub invariant-loop-i : goal.invariant-loop-i

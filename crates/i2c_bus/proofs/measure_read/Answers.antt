@@ -1,5 +1,4 @@
 -- The actions of the rows are so many.
-use borrow.Author.Rules.{rules}
 use Rattle.lines.specs.Lines.{for_each}
 use Rattle.i2c_bus.proofs.measure_read.Goals as goal
 

@@ -1,5 +1,4 @@
 -- The bit's verb is the definition's.
-use borrow.Author.Rules.{rules}
 use Rattle.i2c_bus.proofs.put_bit.Goals as goal
 
 pub returns : goal.returns

@@ -1,13 +1,9 @@
 -- The loop's invariant: what writing the rows of the bits that are left leaves is what writing all of them leaves.
-use borrow.Author.Rules.{rules}
 use Prim.Native.Nat.{◌-◌, ◌≤◌}
-use native.Mathlib.Omega.{arith}
 use lib.ListN.{length}
 use Rattle.packet.specs.Register.{byte_bits}
-use Rattle.packet.proofs.Bytes.{length_byte}
-use Rattle.packet.proofs.Bytes.{byte_at}
 use Rattle.i2c_bus.specs.I2c.{i2c_bit}
-use Rattle.lines.proofs.Rows.{Owed, owed_all, owed_within, owed_fits, owed_turn, owed_none}
+use Rattle.lines.proofs.Rows.{Owed}
 use Rattle.i2c_bus.proofs.put_bits.Given as goal
 
 abbrev pub invariant-loop-i : goal.invariant-loop-i

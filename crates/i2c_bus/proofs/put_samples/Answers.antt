@@ -1,14 +1,9 @@
 -- The goals that the search leaves.
 use borrow.Author.Rules.{rules}
 use mathlib.Core.Path.{refl}
-use mathlib.Core.List.{List}
-use Prim.Native.Nat.{ℕ, ◌-◌, ◌≤◌}
 use native.Mathlib.Omega.{arith}
-use lib.ListN.{length}
-use Rattle.wire.specs.Action.{Action}
 use Rattle.packet.specs.Register.{zeros}
-use Rattle.i2c_bus.specs.I2c.{i2c_sampled}
-use Rattle.lines.proofs.Rows.{Owed, owed_all, owed_within, owed_fits, owed_turn, owed_none}
+use Rattle.lines.proofs.Rows.{owed_all, owed_within, owed_fits, owed_turn, owed_none}
 use Rattle.i2c_bus.proofs.put_samples.Invariants.{row}
 use Rattle.i2c_bus.proofs.put_samples.Goals as goal
 

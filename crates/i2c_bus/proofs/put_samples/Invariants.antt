@@ -1,14 +1,11 @@
 -- The loop's invariant: what writing the rows that are left leaves is what writing all of them leaves.
-use borrow.Author.Rules.{rules}
-use mathlib.Core.Path.{refl}
 use mathlib.Core.List.{List}
 use Prim.Native.Nat.{ℕ, ◌-◌, ◌≤◌}
-use native.Mathlib.Omega.{arith}
 use lib.ListN.{length}
 use Rattle.wire.specs.Action.{Action}
 use Rattle.packet.specs.Register.{zeros}
 use Rattle.i2c_bus.specs.I2c.{i2c_sampled}
-use Rattle.lines.proofs.Rows.{Owed, owed_all, owed_within, owed_fits, owed_turn, owed_none}
+use Rattle.lines.proofs.Rows.{Owed}
 use Rattle.i2c_bus.proofs.put_samples.Given as goal
 
 abbrev pub row : ℕ → List Action

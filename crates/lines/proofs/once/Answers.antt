@@ -1,5 +1,4 @@
 -- The byte is the sample.
-use borrow.Author.Rules.{rules}
 use Rattle.lines.proofs.once.Goals as goal
 
 pub returns : goal.returns

@@ -1,12 +1,8 @@
 -- The first row from here on is the first row of all.
-use borrow.Author.Rules.{rules}
-use Prim.Native.Nat.{ℕ, ◌≤◌, ◌-◌}
-use mathlib.Core.Path.{◌≡◌, refl, sym, ap, ◌∙◌}
-use mathlib.Core.Bool.{Bool, ◌&&◌, beq}
-use lib.Dec.{eqb}
-use lib.ListN.{get_or, drop}
-use Rattle.names.specs.Names.{codes, is_extended, first_where, has_code, row_coded}
-use Rattle.names.proofs.Rows.{found_here, passed_over}
+use Prim.Native.Nat.{◌≤◌, ◌-◌}
+use mathlib.Core.Path.{◌≡◌}
+use lib.ListN.{drop}
+use Rattle.names.specs.Names.{codes, first_where, has_code, row_coded}
 use Rattle.names.proofs.find.Given as goal
 
 abbrev pub invariant-loop-row : goal.invariant-loop-row

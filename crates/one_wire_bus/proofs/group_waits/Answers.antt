@@ -1,5 +1,4 @@
 -- Each wait is the unit times a span of at most 255.
-use borrow.Author.Rules.{rules}
 use native.Mathlib.Omega.{arith}
 use Rattle.one_wire_bus.proofs.Slots.{few}
 use Rattle.one_wire_bus.proofs.group_waits.Goals as goal

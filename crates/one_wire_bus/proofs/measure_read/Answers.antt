@@ -1,5 +1,4 @@
 -- Eight slots are so many actions.
-use borrow.Author.Rules.{rules}
 use Rattle.lines.specs.Lines.{for_each}
 use Rattle.one_wire_bus.proofs.measure_read.Goals as goal
 

@@ -1,5 +1,4 @@
 -- So many slots are so many actions.
-use borrow.Author.Rules.{rules}
 use mathlib.Core.Path.{◌∙◌, ap}
 use Prim.Native.Nat.{ℕ}
 use Rattle.lines.specs.Waves.{measured}

@@ -1,13 +1,9 @@
 -- The goals that the search leaves.
 use borrow.Author.Rules.{rules}
-use mathlib.Core.List.{List}
-use Prim.Native.Nat.{ℕ, ◌-◌, ◌≤◌}
 use native.Mathlib.Omega.{arith}
-use lib.ListN.{length, take}
-use Rattle.wire.specs.Action.{Action, release}
-use Rattle.one_wire_bus.specs.OneWire.{write_slot, low_first}
-use Rattle.one_wire_bus.specs.declared.Waits.{Waits}
-use Rattle.lines.proofs.Rows.{Owed, owed_all, owed_within, owed_fits, owed_turn, owed_none}
+use lib.ListN.{take}
+use Rattle.one_wire_bus.specs.OneWire.{low_first}
+use Rattle.lines.proofs.Rows.{owed_all, owed_within, owed_fits, owed_turn, owed_none}
 use Rattle.one_wire_bus.proofs.Slots.{low_taken, length_low}
 use Rattle.one_wire_bus.proofs.put_bits.Invariants.{row}
 use Rattle.one_wire_bus.proofs.put_bits.Goals as goal

@@ -1,14 +1,11 @@
 -- The loop's invariant: what writing the slots of the bits that are left leaves is what writing all of them leaves.
-use borrow.Author.Rules.{rules}
 use mathlib.Core.List.{List}
 use Prim.Native.Nat.{ℕ, ◌-◌, ◌≤◌}
-use native.Mathlib.Omega.{arith}
 use lib.ListN.{length, take}
 use Rattle.wire.specs.Action.{Action, release}
 use Rattle.one_wire_bus.specs.OneWire.{write_slot, low_first}
 use Rattle.one_wire_bus.specs.declared.Waits.{Waits}
-use Rattle.lines.proofs.Rows.{Owed, owed_all, owed_within, owed_fits, owed_turn, owed_none}
-use Rattle.one_wire_bus.proofs.Slots.{low_taken, length_low}
+use Rattle.lines.proofs.Rows.{Owed}
 use Rattle.one_wire_bus.proofs.put_bits.Given as goal
 
 abbrev pub row : Waits → ℕ → List Action

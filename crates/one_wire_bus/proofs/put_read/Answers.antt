@@ -1,16 +1,12 @@
 -- The goals that the search leaves.
-use borrow.Author.Rules.{rules}
 use mathlib.Core.Path.{refl, ap, sym}
-use mathlib.Core.List.{List}
-use Prim.Native.Nat.{ℕ, ◌-◌, ◌≤◌}
 use native.Mathlib.Nat.{zero-add}
 use native.Mathlib.Omega.{arith}
-use lib.ListN.{length}
-use Rattle.wire.specs.Action.{Action, bytes_of}
+use Rattle.wire.specs.Action.{bytes_of}
 use Rattle.packet.specs.Register.{zeros}
-use Rattle.one_wire_bus.specs.OneWire.{sample_slot, read_slots}
+use Rattle.one_wire_bus.specs.OneWire.{read_slots}
 use Rattle.one_wire_bus.specs.declared.Waits.{Waits}
-use Rattle.lines.proofs.Rows.{Owed, owed_all, owed_within, owed_fits, owed_turn, owed_none, same_written, same_room}
+use Rattle.lines.proofs.Rows.{owed_all, owed_within, owed_fits, owed_turn, owed_none, same_written, same_room}
 use Rattle.one_wire_bus.proofs.put_read.Invariants.{row}
 use Rattle.one_wire_bus.proofs.put_read.Goals as goal
 

@@ -1,16 +1,12 @@
 -- The loop's invariant: what writing the slots that are left leaves is what writing all of them leaves.
-use borrow.Author.Rules.{rules}
-use mathlib.Core.Path.{refl, ap, sym}
 use mathlib.Core.List.{List}
 use Prim.Native.Nat.{ℕ, ◌-◌, ◌≤◌}
-use native.Mathlib.Nat.{zero-add}
-use native.Mathlib.Omega.{arith}
 use lib.ListN.{length}
-use Rattle.wire.specs.Action.{Action, bytes_of}
+use Rattle.wire.specs.Action.{Action}
 use Rattle.packet.specs.Register.{zeros}
-use Rattle.one_wire_bus.specs.OneWire.{sample_slot, read_slots}
+use Rattle.one_wire_bus.specs.OneWire.{sample_slot}
 use Rattle.one_wire_bus.specs.declared.Waits.{Waits}
-use Rattle.lines.proofs.Rows.{Owed, owed_all, owed_within, owed_fits, owed_turn, owed_none, same_written, same_room}
+use Rattle.lines.proofs.Rows.{Owed}
 use Rattle.one_wire_bus.proofs.put_read.Given as goal
 
 abbrev pub row : Waits → ℕ → List Action

@@ -1,5 +1,4 @@
 -- The slot of the group's waits.
-use borrow.Author.Rules.{rules}
 use mathlib.Core.Path.{ap, sym}
 use Rattle.wire.specs.Action.{bytes_of}
 use Rattle.one_wire_bus.specs.OneWire.{sample_slot}

@@ -1,5 +1,4 @@
 -- One step after another.
-use borrow.Author.Rules.{rules}
 use Rattle.lines.proofs.Rows.{then}
 use Rattle.one_wire_bus.proofs.put_slot.Goals as goal
 

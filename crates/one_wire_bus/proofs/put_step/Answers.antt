@@ -1,5 +1,4 @@
 -- One action after another.
-use borrow.Author.Rules.{rules}
 use Rattle.lines.proofs.Rows.{then}
 use Rattle.one_wire_bus.proofs.put_step.Goals as goal
 

@@ -1,5 +1,4 @@
 -- The slots but the last, and then the last.
-use borrow.Author.Rules.{rules}
 use mathlib.Core.Path.{◌≡◌, sym, ap, ◌∙◌}
 use mathlib.Core.List.{List, ◌++◌}
 use Prim.Native.Nat.{◌-◌, ◌≤◌}

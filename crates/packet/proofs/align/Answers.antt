@@ -1,5 +1,4 @@
 -- Only where high is set is anything moved.
-use borrow.Author.Rules.{rules}
 use Rattle.packet.proofs.align.Goals as goal
 
 pub returns-then-high : goal.returns-then-high

@@ -1,5 +1,4 @@
 -- A bit of the register is a bit of the byte that holds its place.
-use borrow.Author.Rules.{rules}
 use native.Mathlib.Omega.{arith}
 use Rattle.packet.proofs.Places.{bit_place}
 use Rattle.packet.proofs.bit_at.Goals as goal

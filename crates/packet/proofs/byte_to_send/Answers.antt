@@ -1,5 +1,4 @@
 -- The byte at the place of the eight steps among the register's bytes.
-use borrow.Author.Rules.{rules}
 use mathlib.Core.Path.{ap}
 use Prim.Native.Nat.{ℕ}
 use lib.ListN.{get_or}

@@ -1,9 +1,9 @@
 -- The goals that the search leaves.
 use borrow.Author.Rules.{rules}
 use mathlib.Core.Path.{◌≡◌, refl, ◌∙◌}
-use Prim.Native.Nat.{◌-◌, ◌*◌, ◌≤◌}
+use Prim.Native.Nat.{◌-◌}
 use native.Mathlib.Omega.{arith}
-use lib.ListN.{length, drop, length-set}
+use lib.ListN.{length, length-set}
 use Rattle.packet.specs.Register.{bits, zeros}
 use Rattle.packet.specs.Packet.{width, register_bytes, kept, cleared}
 use Rattle.packet.proofs.Bytes.{length_register}

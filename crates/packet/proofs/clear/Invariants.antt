@@ -1,13 +1,8 @@
 -- The loop's invariant: from the place on the bytes are those of the cleared register.
-use borrow.Author.Rules.{rules}
-use mathlib.Core.Path.{◌≡◌, refl, ◌∙◌}
+use mathlib.Core.Path.{◌≡◌}
 use Prim.Native.Nat.{◌-◌, ◌*◌, ◌≤◌}
-use native.Mathlib.Omega.{arith}
-use lib.ListN.{length, drop, length-set}
-use Rattle.packet.specs.Register.{bits, zeros}
-use Rattle.packet.specs.Packet.{width, register_bytes, kept, cleared}
-use Rattle.packet.proofs.Bytes.{length_register}
-use Rattle.packet.proofs.Filled.{kept_at, fill_start, fill_turn}
+use lib.ListN.{length, drop}
+use Rattle.packet.specs.Packet.{width, register_bytes, cleared}
 use Rattle.packet.proofs.clear.Given as goal
 
 abbrev pub invariant-loop-i : goal.invariant-loop-i

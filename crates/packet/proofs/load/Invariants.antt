@@ -1,13 +1,9 @@
 -- The loop's invariant: the bytes filled, and those that are to come, make the register.
-use borrow.Author.Rules.{rules}
-use mathlib.Core.Path.{◌≡◌, refl, sym, ap, ◌∙◌}
-use mathlib.Core.List.{◌++◌, append-nil}
-use Prim.Native.Nat.{ℕ, ◌+◌, ◌-◌, ◌≤◌}
-use native.Mathlib.Omega.{arith}
-use lib.ListN.{length, take, set, length-set}
-use lib.Seq.{take_all}
+use mathlib.Core.Path.{◌≡◌}
+use mathlib.Core.List.{◌++◌}
+use Prim.Native.Nat.{◌-◌, ◌≤◌}
+use lib.ListN.{length, take}
 use Rattle.packet.specs.Packet.{register_bytes, from_held}
-use Rattle.packet.proofs.Loads.{load_turn}
 use Rattle.packet.proofs.load.Given as goal
 
 abbrev pub invariant-loop-i : goal.invariant-loop-i

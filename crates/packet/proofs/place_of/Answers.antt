@@ -1,5 +1,4 @@
 -- By the order.
-use borrow.Author.Rules.{rules}
 use native.Mathlib.Omega.{arith}
 use Rattle.packet.proofs.place_of.Goals as goal
 

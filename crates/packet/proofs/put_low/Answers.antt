@@ -1,5 +1,4 @@
 -- The register's own bytes loaded are its bytes lowest first, and the first of them are its low bytes.
-use borrow.Author.Rules.{rules}
 use mathlib.Core.Path.{◌≡◌, sym}
 use native.Mathlib.Nat.{zero-add}
 use native.Mathlib.Omega.{arith}

@@ -1,12 +1,11 @@
 -- The goals that the search leaves.
 use borrow.Author.Rules.{rules}
 use mathlib.Core.Path.{◌≡◌, refl, sym, ap, ◌∙◌}
-use mathlib.Core.Bool.{true}
-use Prim.Native.Nat.{ℕ, suc, ◌+◌, ◌-◌, ◌/◌, ◌≤◌, ◌<◌}
+use Prim.Native.Nat.{ℕ, suc, ◌+◌, ◌-◌, ◌/◌}
 use native.Mathlib.Omega.{arith}
-use lib.ListN.{length, get_or, drop, length-set, get_or-eq_default}
+use lib.ListN.{length, length-set, get_or-eq_default}
 use Rattle.packet.specs.Register.{bits, zeros}
-use Rattle.packet.specs.Packet.{width, register_bytes, moved_up, aligned}
+use Rattle.packet.specs.Packet.{width, register_bytes, moved_up}
 use Rattle.packet.specs.Alignment.{bits_up}
 use Rattle.packet.proofs.Bytes.{length_register, register_bits}
 use Rattle.packet.proofs.Filled.{fill_start, fill_turn}

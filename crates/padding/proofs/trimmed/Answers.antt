@@ -8,7 +8,7 @@ use mathlib.Core.Path.{◌≡◌, refl, sym, ap, ◌∙◌}
 use mathlib.Core.Bool.{Bool, true, false, cond}
 use mathlib.Core.List.{List}
 use lib.Dec.{eqb}
-use lib.ListN.{get_or, length, take}
+use lib.ListN.{get_or, take}
 use lib.Seq.{length-take-le}
 use Rattle.padding.specs.Padding.{size_within}
 use Rattle.padding.proofs.trimmed.Goals as goal

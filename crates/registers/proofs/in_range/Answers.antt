@@ -1,5 +1,4 @@
 -- The page's test, the wait's and the drop's.
-use borrow.Author.Rules.{rules}
 use Rattle.registers.proofs.in_range.Goals as goal
 
 pub returns : goal.returns

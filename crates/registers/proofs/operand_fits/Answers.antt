@@ -1,5 +1,4 @@
 -- Case by case, the definition's own test.
-use borrow.Author.Rules.{rules}
 use Rattle.registers.proofs.operand_fits.Goals as goal
 
 pub returns-in-ToI2c : goal.returns-in-ToI2c

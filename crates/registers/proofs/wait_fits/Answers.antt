@@ -1,5 +1,4 @@
 -- Case by case, the definition's own test.
-use borrow.Author.Rules.{rules}
 use Rattle.registers.proofs.wait_fits.Goals as goal
 
 pub returns-in-One : goal.returns-in-One

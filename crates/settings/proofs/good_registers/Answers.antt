@@ -1,5 +1,4 @@
 -- The interfaces are counted by their function, the rest is tested here.
-use borrow.Author.Rules.{rules}
 use Rattle.settings.proofs.good_registers.Goals as goal
 
 pub returns : goal.returns

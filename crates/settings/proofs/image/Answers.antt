@@ -1,5 +1,4 @@
 -- Byte by byte.
-use borrow.Author.Rules.{rules}
 use Rattle.settings.proofs.image.Goals as goal
 
 pub returns : goal.returns

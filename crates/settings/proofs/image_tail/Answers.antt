@@ -1,5 +1,4 @@
 -- Only SPI's settings are stored.
-use borrow.Author.Rules.{rules}
 use Rattle.settings.proofs.image_tail.Goals as goal
 
 pub returns-then-spi_selected : goal.returns-then-spi_selected

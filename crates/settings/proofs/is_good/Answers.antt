@@ -1,5 +1,4 @@
 -- Without ten bytes not good; else the registers and the tail.
-use borrow.Author.Rules.{rules}
 use borrow.Author.Tests.{eq-eqb, ne_eqb}
 use Rattle.settings.specs.Images.{is_good}
 use Rattle.settings.proofs.is_good.Goals as goal

@@ -1,5 +1,4 @@
 -- Register by register.
-use borrow.Author.Rules.{rules}
 use Rattle.settings.proofs.page.Goals as goal
 
 pub returns : goal.returns

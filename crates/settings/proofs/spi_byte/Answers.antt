@@ -1,6 +1,4 @@
 -- With SPI and without.
-use borrow.Author.Rules.{rules}
-use borrow.Author.Tests.{not-true, not-false}
 use mathlib.Core.Path.{sym, ◌∙◌}
 use Rattle.settings.proofs.spi_byte.Goals as goal
 

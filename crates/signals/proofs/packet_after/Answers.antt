@@ -1,5 +1,4 @@
 -- An exchange gives another packet register, and no other waveform does.
-use borrow.Author.Rules.{rules}
 use borrow.Enum.Refused.{opened}
 use mathlib.Core.Path.{sym, ap, ◌∙◌}
 use Rattle.signals.specs.Waveforms.{Waveform, wave_of}

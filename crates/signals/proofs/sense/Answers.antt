@@ -1,5 +1,4 @@
 -- What is measured, and the packet register.
-use borrow.Author.Rules.{rules}
 use Rattle.signals.proofs.sense.Goals as goal
 
 pub returns : goal.returns

@@ -1,16 +1,10 @@
 -- The loop's invariant: from the place on the bytes are those of the register that 01 has received, which is the shift register's.
-use borrow.Author.Rules.{rules}
-use mathlib.Core.Path.{◌≡◌, sym, ◌∙◌}
+use mathlib.Core.Path.{◌≡◌}
 use Prim.Native.Nat.{◌-◌, ◌*◌, ◌≤◌}
-use native.Mathlib.Omega.{arith}
-use lib.ListN.{length, drop, length-set}
+use lib.ListN.{length, drop}
 use Rattle.packet.specs.Register.{register}
 use Rattle.packet.specs.Packet.{width, register_bytes, bits_received}
-use Rattle.packet.proofs.Bytes.{length_register}
-use Rattle.packet.proofs.Filled.{received_at, fill_start, fill_turn}
-use Rattle.packet.proofs.Shifts.{exchange_right}
 use Rattle.lines.specs.Lines.{levels}
-use Rattle.lines.proofs.Levels.{length_levels}
 use Rattle.spi_bus.proofs.exchange.Given as goal
 
 abbrev pub invariant-loop-i : goal.invariant-loop-i

@@ -1,6 +1,5 @@
 -- The shift register holds what was received; that the page is good says how long its register is.
-use borrow.Author.Rules.{rules}
-use mathlib.Core.Path.{◌≡◌, sym, ◌∙◌}
+use mathlib.Core.Path.{◌≡◌, ◌∙◌}
 use lib.ListN.{length}
 use native.Mathlib.Omega.{arith}
 use Rattle.packet.specs.Packet.{width, register_bytes}

@@ -1,5 +1,4 @@
 -- By the phase, the row of the definition.
-use borrow.Author.Rules.{rules}
 use Rattle.spi_bus.specs.Spi.{spi_bit}
 use Rattle.spi_bus.proofs.put_bit.Goals as goal
 

@@ -7,13 +7,13 @@ use Prim.Native.Nat.{ℕ, ◌+◌, ◌-◌, ◌/◌, ◌%◌, ◌≤◌, ◌<◌
 use native.Mathlib.Nat.{add-zero}
 use native.Mathlib.Omega.{arith}
 use lib.ListN.{length, get_or}
-use Rattle.wire.specs.Action.{bytes_of, sck}
+use Rattle.wire.specs.Action.{sck}
 use Rattle.wire.proofs.Buffers.{overwrite_length, written_append}
 use Rattle.packet.specs.Packet.{width, register_bytes, sent, sent_at}
 use Rattle.packet.proofs.Places.{length_sent, sent_at_lem, byte_sent}
 use Rattle.lines.specs.Lines.{driven, for_each}
 use Rattle.spi_bus.specs.Spi.{spi_bit}
-use Rattle.lines.proofs.Rows.{Owed, owed_all, owed_at, owed_within, owed_fits, owed_turn, owed_none, second_within}
+use Rattle.lines.proofs.Rows.{owed_all, owed_at, owed_within, owed_fits, owed_turn, owed_none, second_within}
 use Rattle.spi_bus.proofs.Exchanges.{bit_bytes}
 use Rattle.spi_bus.proofs.put_bits.Goals as goal
 

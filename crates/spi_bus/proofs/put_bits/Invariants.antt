@@ -1,21 +1,14 @@
 -- The clock at rest, and then the bits. The invariant of the bytes' loop: what writing the rows of the bits that are left leaves is
 -- what writing all of them leaves. Each of the other loops takes on what was owed when it began.
-use borrow.Author.Rules.{rules}
-use mathlib.Core.Path.{◌≡◌, sym, ap, ◌∙◌}
-use mathlib.Core.Bool.{Bool, cond}
-use mathlib.Core.List.{List, [], ◌∷◌}
-use Prim.Native.Nat.{ℕ, ◌+◌, ◌-◌, ◌/◌, ◌%◌, ◌≤◌, ◌<◌}
-use native.Mathlib.Nat.{add-zero}
-use native.Mathlib.Omega.{arith}
-use lib.ListN.{length, get_or}
-use Rattle.wire.specs.Action.{bytes_of, sck}
-use Rattle.wire.proofs.Buffers.{overwrite_length, written_append}
-use Rattle.packet.specs.Packet.{width, register_bytes, sent, sent_at}
-use Rattle.packet.proofs.Places.{length_sent, sent_at_lem, byte_sent}
-use Rattle.lines.specs.Lines.{driven, for_each}
+use mathlib.Core.Path.{◌≡◌}
+use mathlib.Core.List.{List}
+use Prim.Native.Nat.{ℕ, ◌+◌, ◌-◌, ◌%◌, ◌≤◌}
+use lib.ListN.{length}
+use Rattle.wire.specs.Action.{bytes_of}
+use Rattle.packet.specs.Packet.{sent}
+use Rattle.lines.specs.Lines.{for_each}
 use Rattle.spi_bus.specs.Spi.{spi_bit}
-use Rattle.lines.proofs.Rows.{Owed, owed_all, owed_at, owed_within, owed_fits, owed_turn, owed_none, second_within}
-use Rattle.spi_bus.proofs.Exchanges.{bit_bytes}
+use Rattle.lines.proofs.Rows.{Owed}
 use Rattle.spi_bus.proofs.put_bits.Given as goal
 
 abbrev pub invariant-loop-j : goal.invariant-loop-j

@@ -1,5 +1,4 @@
 -- The parts of the configuration are the definition's.
-use borrow.Author.Rules.{rules}
 use native.Mathlib.Omega.{arith}
 use Rattle.spi_bus.specs.Spi.{spi_bits}
 use Rattle.spi_bus.proofs.put_exchange.Goals as goal

@@ -1,6 +1,5 @@
 -- A line is low exactly if its sample is 0.
 use mathlib.Core.Path.{◌∙◌, ap}
-use borrow.Author.Rules.{rules}
 use Rattle.wire.specs.Sample.{level_of}
 use Rattle.wire.proofs.Samples.{level_low, level_high}
 use Rattle.wire.proofs.level_at.Goals as goal

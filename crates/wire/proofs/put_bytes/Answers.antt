@@ -1,10 +1,8 @@
 -- The goals that the search leaves.
 use borrow.Author.Rules.{rules}
-use mathlib.Core.Path.{◌≡◌, refl, ◌∙◌}
-use Prim.Native.Nat.{◌+◌, ◌-◌, ◌≤◌}
+use mathlib.Core.Path.{refl, ◌∙◌}
 use native.Mathlib.Omega.{arith}
-use lib.ListN.{length, drop, length-set}
-use Rattle.wire.specs.Buffer.{overwrite}
+use lib.ListN.{length-set}
 use Rattle.wire.proofs.Buffers.{put_turn, put_done}
 use Rattle.wire.proofs.put_bytes.Goals as goal
 

@@ -1,11 +1,8 @@
 -- The loop's invariant: writing the bytes that are left gives what writing the whole row gives.
-use borrow.Author.Rules.{rules}
-use mathlib.Core.Path.{◌≡◌, refl, ◌∙◌}
+use mathlib.Core.Path.{◌≡◌}
 use Prim.Native.Nat.{◌+◌, ◌-◌, ◌≤◌}
-use native.Mathlib.Omega.{arith}
-use lib.ListN.{length, drop, length-set}
+use lib.ListN.{length, drop}
 use Rattle.wire.specs.Buffer.{overwrite}
-use Rattle.wire.proofs.Buffers.{put_turn, put_done}
 use Rattle.wire.proofs.put_bytes.Given as goal
 
 abbrev pub invariant-loop-i : goal.invariant-loop-i

@@ -1,5 +1,4 @@
 -- The level of the action that is found.
-use borrow.Author.Rules.{rules}
 use Prim.Native.Nat.{ℕ}
 use mathlib.Core.Path.{ap, ◌∙◌}
 use Rattle.wire.specs.Action.{Action}

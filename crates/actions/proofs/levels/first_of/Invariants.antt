@@ -1,16 +1,9 @@
 -- What is found in the actions left is what is found in all.
-use borrow.Author.Rules.{rules}
-use Prim.Native.Nat.{ℕ, ◌+◌, ◌-◌, ◌<◌, ◌≤◌}
-use mathlib.Core.Path.{◌≡◌, refl, sym, ap, ◌∙◌}
-use mathlib.Core.Bool.{Bool, cond, ◌&&◌}
-use mathlib.Core.List.{List}
-use native.Mathlib.Omega.{arith}
-use lib.Dec.{eqb, leb}
+use Prim.Native.Nat.{◌-◌, ◌≤◌}
+use mathlib.Core.Path.{◌≡◌}
 use lib.ListN.{length, drop}
-use Rattle.wire.specs.Action.{Action}
-use Rattle.actions.specs.Reading.{no_action, action_at, actions_in, wait_of}
+use Rattle.actions.specs.Reading.{actions_in}
 use Rattle.actions.specs.Levels.{first_of}
-use Rattle.actions.proofs.Walks.{actions_from, none_from}
 use Rattle.actions.proofs.levels.first_of.Given as goal
 
 abbrev pub invariant-loop-at : goal.invariant-loop-at

@@ -1,5 +1,4 @@
 -- By the action that is found, and the wait before it.
-use borrow.Author.Rules.{rules}
 use Prim.Native.Nat.{ℕ}
 use mathlib.Core.Path.{ap}
 use mathlib.Core.Bool.{◌&&◌}

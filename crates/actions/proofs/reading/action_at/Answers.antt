@@ -1,5 +1,4 @@
 -- By the bytes left.
-use borrow.Author.Rules.{rules}
 use mathlib.Core.Path.{sym, ◌∙◌}
 use native.Mathlib.Omega.{arith}
 use Rattle.actions.proofs.Walks.{none_there, one_there}

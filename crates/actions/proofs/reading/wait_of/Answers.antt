@@ -1,5 +1,4 @@
 -- Verb by verb.
-use borrow.Author.Rules.{rules}
 use borrow.Author.Tests.{ne_eqb}
 use Rattle.actions.proofs.reading.wait_of.Goals as goal
 

@@ -1,5 +1,4 @@
 -- Section by section, its flag.
-use borrow.Author.Rules.{rules}
 use Rattle.commands.proofs.checks.is_selected.Goals as goal
 
 pub returns-in-I2c : goal.returns-in-I2c

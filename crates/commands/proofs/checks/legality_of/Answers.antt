@@ -1,5 +1,4 @@
 -- Each test as the definition has it.
-use borrow.Author.Rules.{rules}
 use Rattle.commands.proofs.checks.legality_of.Goals as goal
 
 pub returns-then-not-is_listed : goal.returns-then-not-is_listed

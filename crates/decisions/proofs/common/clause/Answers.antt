@@ -1,5 +1,4 @@
 -- Command by command, the clause of its own.
-use borrow.Author.Rules.{rules}
 use Rattle.decisions.proofs.common.clause.Goals as goal
 
 pub returns-in-ResetDevice : goal.returns-in-ResetDevice

@@ -1,5 +1,4 @@
 -- The flags with the bit are stored.
-use borrow.Author.Rules.{rules}
 use Rattle.decisions.proofs.common.set_flag.Goals as goal
 
 pub returns : goal.returns

@@ -1,5 +1,4 @@
 -- The latch after the second bit is stored.
-use borrow.Author.Rules.{rules}
 use Rattle.decisions.proofs.common.set_iog.Goals as goal
 
 pub returns : goal.returns

@@ -1,5 +1,4 @@
 -- Section by section, the clause of its own.
-use borrow.Author.Rules.{rules}
 use Rattle.decisions.proofs.events.clause_of.Goals as goal
 
 pub returns-in-Common : goal.returns-in-Common

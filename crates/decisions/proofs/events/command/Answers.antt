@@ -1,5 +1,4 @@
 -- The command of the byte, unknown, rejected or legal.
-use borrow.Author.Rules.{rules}
 use Rattle.decisions.proofs.events.command.Goals as goal
 
 pub returns-in-Unknown : goal.returns-in-Unknown

@@ -1,5 +1,4 @@
 -- Command by command, the clause of its own.
-use borrow.Author.Rules.{rules}
 use Rattle.decisions.proofs.extended.clause.Goals as goal
 
 pub returns-in-Pulse : goal.returns-in-Pulse

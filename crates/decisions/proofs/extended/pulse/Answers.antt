@@ -1,5 +1,4 @@
 -- The latch keeps the last level.
-use borrow.Author.Rules.{rules}
 use Rattle.decisions.proofs.extended.pulse.Goals as goal
 
 pub returns : goal.returns

@@ -1,5 +1,4 @@
 -- Command by command, the clause of its own.
-use borrow.Author.Rules.{rules}
 use Rattle.decisions.proofs.i2c.clause.Goals as goal
 
 pub returns-in-SendStart : goal.returns-in-SendStart

@@ -1,5 +1,4 @@
 -- No change, no waveform and no answer.
-use borrow.Author.Rules.{rules}
 use Rattle.decisions.proofs.kinds.dropping.Goals as goal
 
 pub returns : goal.returns

@@ -1,5 +1,4 @@
 -- Command by command, the clause of its own.
-use borrow.Author.Rules.{rules}
 use Rattle.decisions.proofs.one_wire.clause.Goals as goal
 
 pub returns-in-SendReset : goal.returns-in-SendReset

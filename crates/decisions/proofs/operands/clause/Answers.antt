@@ -1,5 +1,4 @@
 -- Operand by operand, the clause of its own.
-use borrow.Author.Rules.{rules}
 use Rattle.decisions.proofs.operands.clause.Goals as goal
 
 pub returns-in-ToPort : goal.returns-in-ToPort

@@ -1,5 +1,4 @@
 -- One register is changed, with the action that carries it.
-use borrow.Author.Rules.{rules}
 use Rattle.decisions.proofs.operands.write_port.Goals as goal
 
 pub returns : goal.returns

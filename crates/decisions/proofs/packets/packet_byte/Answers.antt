@@ -1,5 +1,4 @@
 -- At the last byte the register is loaded, before it one more is held.
-use borrow.Author.Rules.{rules}
 use mathlib.Core.Path.{◌∙◌}
 use borrow.Author.Tests.{eq-eqb, ne_eqb}
 use Rattle.wire.proofs.Choices.{chosen}

@@ -1,5 +1,4 @@
 -- 41 unconfigured sends its code; every other rejection returns it.
-use borrow.Author.Rules.{rules}
 use Rattle.decisions.proofs.rejections.rejected.Goals as goal
 
 pub returns-then-code-reads_configuration : goal.returns-then-code-reads_configuration

@@ -1,5 +1,4 @@
 -- Command by command, the clause of its own.
-use borrow.Author.Rules.{rules}
 use Rattle.decisions.proofs.spi.clause.Goals as goal
 
 pub returns-in-LoadConfig : goal.returns-in-LoadConfig

@@ -1,5 +1,4 @@
 -- A drop if an item may begin there.
-use borrow.Author.Rules.{rules}
 use Rattle.grammar.proofs.following.after_fault.Goals as goal
 
 pub returns : goal.returns

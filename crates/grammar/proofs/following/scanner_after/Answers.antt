@@ -1,5 +1,4 @@
 -- By whether the byte is accepted.
-use borrow.Author.Rules.{rules}
 use mathlib.Core.Path.{sym, ◌∙◌}
 use Rattle.grammar.proofs.following.scanner_after.Goals as goal
 

@@ -1,5 +1,4 @@
 -- The factory context is the cleared one.
-use borrow.Author.Rules.{rules}
 use mathlib.Core.Path.{ap}
 use Rattle.grammar.specs.Following.{undisturbed}
 use Rattle.grammar.proofs.following.start.Goals as goal

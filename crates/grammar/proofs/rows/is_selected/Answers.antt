@@ -1,5 +1,4 @@
 -- Interfaces are the same where their numbers are.
-use borrow.Author.Rules.{rules}
 use Rattle.grammar.proofs.rows.is_selected.Goals as goal
 
 pub returns : goal.returns

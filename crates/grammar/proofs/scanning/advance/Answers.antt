@@ -1,5 +1,4 @@
 -- With no byte to come the item has ended.
-use borrow.Author.Rules.{rules}
 use Rattle.grammar.proofs.Scans.{going_ended, going_on}
 use Rattle.grammar.proofs.scanning.advance.Goals as goal
 

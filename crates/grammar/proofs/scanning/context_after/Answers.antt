@@ -1,6 +1,5 @@
 -- Case by case; a size operand's N is the packet's own.
 use Prim.Native.Nat.{ℕ}
-use borrow.Author.Rules.{rules}
 use mathlib.Core.Path.{sym, ap, ◌∙◌}
 use Rattle.grammar.specs.Grammar.{Context, ContextChange, context_after}
 use Rattle.grammar.proofs.scanning.context_after.Goals as goal

@@ -1,6 +1,4 @@
 -- By whether the byte is legal, and whether it is 1D between items.
-use borrow.Author.Rules.{rules}
-use borrow.Author.Tests.{not-true, not-false}
 use mathlib.Core.Path.{sym, ap, ◌∙◌}
 use Rattle.grammar.specs.Scanner.{Accepted}
 use Rattle.grammar.specs.Following.{opening_in}

@@ -1,5 +1,4 @@
 -- Place by place, the definition's own clause.
-use borrow.Author.Rules.{rules}
 use mathlib.Core.Path.{ap}
 use Rattle.grammar.specs.Scanner.{Between, Extended, Inside, Accepted}
 use Rattle.grammar.proofs.Scans.{scan_at_lem}

@@ -1,5 +1,4 @@
 -- One action after another.
-use borrow.Author.Rules.{rules}
 use Rattle.lines.proofs.Rows.{then}
 use Rattle.lines.proofs.ports.put_port.Goals as goal
 

@@ -1,5 +1,4 @@
 -- One port after another.
-use borrow.Author.Rules.{rules}
 use Rattle.lines.proofs.Rows.{then}
 use Rattle.lines.proofs.ports.put_ports.Goals as goal
 

@@ -1,5 +1,4 @@
 -- The line after the ports.
-use borrow.Author.Rules.{rules}
 use Rattle.lines.proofs.Rows.{then}
 use Rattle.lines.proofs.ports.put_reinit_high.Goals as goal
 

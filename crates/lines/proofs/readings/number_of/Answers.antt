@@ -2,11 +2,11 @@
 use borrow.Author.Rules.{rules}
 use mathlib.Core.Path.{◌≡◌, refl, sym, ap, ◌∙◌}
 use mathlib.Core.List.{[]}
-use Prim.Native.Nat.{◌+◌, ◌-◌, ◌^◌, ◌≤◌, ◌<◌}
+use Prim.Native.Nat.{◌+◌, ◌-◌, ◌<◌}
 use native.Mathlib.Omega.{arith}
 use lib.ListN.{length, take, drop, length-take, drop_of_length-le}
 use lib.Pow.{pow_pos}
-use lib.Seq.{slice, length-take-le, get_or-take}
+use lib.Seq.{length-take-le, get_or-take}
 use Rattle.packet.specs.Register.{number}
 use Rattle.packet.specs.Packet.{order}
 use Rattle.packet.proofs.Places.{length_order}

@@ -1,5 +1,4 @@
 -- The fourth after the three.
-use borrow.Author.Rules.{rules}
 use Rattle.lines.proofs.Rows.{then}
 use Rattle.lines.proofs.several.put_four.Goals as goal
 

@@ -1,5 +1,4 @@
 -- A fault, or a byte.
-use borrow.Author.Rules.{rules}
 use Rattle.records.proofs.contents.event_of.Goals as goal
 
 pub returns-then-fault : goal.returns-then-fault

@@ -1,5 +1,4 @@
 -- One byte, or not.
-use borrow.Author.Rules.{rules}
 use borrow.Author.Tests.{eq-eqb, ne_eqb}
 use Rattle.records.proofs.contents.one_fault.Goals as goal
 

@@ -1,5 +1,4 @@
 -- Past the body, past the file, or in a body of bytes.
-use borrow.Author.Rules.{rules}
 use borrow.Author.Tests.{lt-ltb, le-ltb, le-leb, lt-leb}
 use Rattle.records.specs.Records.{record_from}
 use Rattle.records.proofs.reading.record_from.Goals as goal

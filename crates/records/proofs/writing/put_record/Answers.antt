@@ -1,5 +1,4 @@
 -- The header, and the body after it.
-use borrow.Author.Rules.{rules}
 use Rattle.wire.proofs.Buffers.{written_append}
 use Rattle.records.proofs.writing.put_record.Goals as goal
 

@@ -1,5 +1,4 @@
 -- By the bit.
-use borrow.Author.Rules.{rules}
 use Rattle.registers.proofs.bits.with_bit.Goals as goal
 
 pub returns-in-Three : goal.returns-in-Three

@@ -1,5 +1,4 @@
 -- Case by case; a port's direction and latch have one rule.
-use borrow.Author.Rules.{rules}
 use Rattle.registers.proofs.ports.protect.Goals as goal
 
 pub returns-in-Ddrc : goal.returns-in-Ddrc

@@ -1,5 +1,4 @@
 -- Case by case, with one field replaced.
-use borrow.Author.Rules.{rules}
 use Rattle.registers.proofs.ports.store_register.Goals as goal
 
 pub returns-in-Ddrb : goal.returns-in-Ddrb

@@ -1,5 +1,4 @@
 -- The part is copied whole.
-use borrow.Author.Rules.{rules}
 use mathlib.Core.Path.{refl}
 use Rattle.registers.specs.Registers.{held_bytes}
 use Rattle.state_bytes.proofs.Parts.{piece_copied}

@@ -1,5 +1,4 @@
 -- Another length is no state's; else the four tests.
-use borrow.Author.Rules.{rules}
 use borrow.Author.Tests.{eq-eqb, ne_eqb}
 use Rattle.state_bytes.specs.StateBytes.{is_state}
 use Rattle.state_bytes.proofs.decoding.is_state.Goals as goal

@@ -1,5 +1,4 @@
 -- Register by register.
-use borrow.Author.Rules.{rules}
 use Rattle.state_bytes.proofs.decoding.page.Goals as goal
 
 pub returns : goal.returns

@@ -1,5 +1,4 @@
 -- Part by part.
-use borrow.Author.Rules.{rules}
 use Rattle.state_bytes.proofs.decoding.shared.Goals as goal
 
 pub returns : goal.returns

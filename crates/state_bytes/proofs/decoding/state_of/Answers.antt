@@ -1,5 +1,4 @@
 -- Part by part.
-use borrow.Author.Rules.{rules}
 use Rattle.state_bytes.specs.StateBytes.{state_in}
 use Rattle.state_bytes.proofs.decoding.state_of.Goals as goal
 

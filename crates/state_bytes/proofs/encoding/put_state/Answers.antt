@@ -1,5 +1,4 @@
 -- The three parts, one after another.
-use borrow.Author.Rules.{rules}
 use native.Mathlib.Omega.{arith}
 use Rattle.wire.proofs.Buffers.{written_append}
 use Rattle.state_bytes.specs.StateBytes.{state_bytes}

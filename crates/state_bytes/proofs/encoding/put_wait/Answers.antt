@@ -1,5 +1,4 @@
 -- The number and the count, then what is held, then the drop.
-use borrow.Author.Rules.{rules}
 use Rattle.wire.proofs.Buffers.{written_append}
 use Rattle.state_bytes.proofs.encoding.put_wait.Goals as goal
 

@@ -1,5 +1,4 @@
 -- The bytes are as many as those that are written over them.
-use borrow.Author.Rules.{rules}
 use mathlib.Core.Path.{sym, ◌∙◌}
 use Rattle.state_bytes.specs.StateBytes.{state_bytes}
 use Rattle.state_bytes.proofs.Parts.{written_whole}
