@@ -1,5 +1,4 @@
 -- Change by change.
-use borrow.Author.Rules.{rules}
 use Rattle.changes.proofs.apply.Goals as goal
 
 pub returns-in-Nothing : goal.returns-in-Nothing

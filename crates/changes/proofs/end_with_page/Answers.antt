@@ -1,5 +1,4 @@
 -- The page first, then the wait.
-use borrow.Author.Rules.{rules}
 use mathlib.Core.Path.{ap, ◌∙◌}
 use Rattle.registers.specs.Registers.{ended}
 use Rattle.changes.proofs.end_with_page.Goals as goal

@@ -1,5 +1,4 @@
 -- The byte is held with the others.
-use borrow.Author.Rules.{rules}
 use Rattle.changes.proofs.hold.Goals as goal
 
 pub returns : goal.returns

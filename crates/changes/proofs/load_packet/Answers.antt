@@ -1,5 +1,4 @@
 -- With the last byte the register is the packet's own load.
-use borrow.Author.Rules.{rules}
 use Rattle.changes.proofs.load_packet.Goals as goal
 
 pub returns : goal.returns

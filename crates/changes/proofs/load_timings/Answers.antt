@@ -1,5 +1,4 @@
 -- With the last byte all are stored.
-use borrow.Author.Rules.{rules}
 use Rattle.changes.proofs.load_timings.Goals as goal
 
 pub returns : goal.returns

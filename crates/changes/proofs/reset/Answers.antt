@@ -1,5 +1,4 @@
 -- The flags kept are those of the definition.
-use borrow.Author.Rules.{rules}
 use Rattle.changes.proofs.reset.Goals as goal
 
 pub returns : goal.returns

@@ -1,5 +1,4 @@
 -- The image is stored in the shared part alone.
-use borrow.Author.Rules.{rules}
 use Rattle.changes.proofs.save.Goals as goal
 
 pub returns : goal.returns

@@ -1,5 +1,4 @@
 -- One register of the page is changed.
-use borrow.Author.Rules.{rules}
 use Rattle.changes.proofs.store.Goals as goal
 
 pub returns : goal.returns

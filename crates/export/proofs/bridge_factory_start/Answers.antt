@@ -1,5 +1,4 @@
 -- Refused for the state's length, or the start is stored.
-use borrow.Author.Rules.{rules}
 use Rattle.export.proofs.CallOutcomes.{start_refused, started}
 use Rattle.export.proofs.bridge_factory_start.Goals as goal
 

@@ -1,6 +1,4 @@
 -- No state, refused, or the verdict.
-use borrow.Author.Rules.{rules}
-use borrow.Author.Tests.{not-true, not-false}
 use mathlib.Core.Path.{sym, ◌∙◌}
 use Rattle.state_bytes.proofs.Back.{state_facts}
 use Rattle.export.proofs.CallOutcomes.{judge_no_state, judge_refused, judge_judged}

@@ -1,6 +1,4 @@
 -- No state, or the run.
-use borrow.Author.Rules.{rules}
-use borrow.Author.Tests.{not-true, not-false}
 use mathlib.Core.Path.{sym, ◌∙◌}
 use Rattle.export.specs.Replaying.{c_cursor}
 use Rattle.state_bytes.proofs.Back.{state_facts}

@@ -1,6 +1,4 @@
 -- No state, no event, or what the bridge answered.
-use borrow.Author.Rules.{rules}
-use borrow.Author.Tests.{not-true, not-false}
 use mathlib.Core.Path.{sym, ◌∙◌}
 use Rattle.bridge.specs.Answering.{lent}
 use Rattle.state_bytes.proofs.Back.{state_facts}

@@ -1,5 +1,4 @@
 -- Refused for the state's length, or what switch-on answered.
-use borrow.Author.Rules.{rules}
 use Rattle.export.specs.Exported.{device_of}
 use Rattle.export.proofs.CallOutcomes.{switch_refused, switch_answers}
 use Rattle.export.proofs.bridge_switch_on.Goals as goal

@@ -1,5 +1,4 @@
 -- By computation, the factory image being good.
-use borrow.Author.Rules.{rules}
 use Rattle.settings.specs.Images.{is_good}
 use Rattle.switch_on.specs.SwitchOn.{used_of, switch_of}
 use Rattle.switch_on.proofs.factory_start.Goals as goal

@@ -1,5 +1,4 @@
 -- The bridge that switch-on answers.
-use borrow.Author.Rules.{rules}
 use mathlib.Core.Path.{ap}
 use Rattle.switch_on.specs.SwitchOn.{Switched}
 use Rattle.switch_on.proofs.from_factory.Goals as goal

@@ -1,5 +1,4 @@
 -- By whether the factory image is good.
-use borrow.Author.Rules.{rules}
 use mathlib.Core.Path.{sym, ◌∙◌}
 use Rattle.switch_on.proofs.reason.Goals as goal
 

@@ -1,5 +1,4 @@
 -- The state is all zero.
-use borrow.Author.Rules.{rules}
 use Rattle.switch_on.proofs.refused.Goals as goal
 
 pub returns : goal.returns

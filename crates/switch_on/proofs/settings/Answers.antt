@@ -1,6 +1,4 @@
 -- Refused, or the image used.
-use borrow.Author.Rules.{rules}
-use borrow.Author.Tests.{not-true, not-false}
 use mathlib.Core.Path.{sym, ap, ◌∙◌}
 use Rattle.settings.specs.Images.{page_of}
 use Rattle.switch_on.proofs.SwitchOutcomes.{same_fit, none_good, none_fit, some_used}

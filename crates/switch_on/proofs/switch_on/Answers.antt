@@ -1,5 +1,4 @@
 -- Refused where there are no settings, else on by them.
-use borrow.Author.Rules.{rules}
 use native.Mathlib.Nat.{zero-add}
 use mathlib.Core.Path.{ap, ◌∙◌, refl}
 use Rattle.wire.proofs.Buffers.{part_start, part_room, written_after}

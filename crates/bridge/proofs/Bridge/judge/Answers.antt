@@ -1,6 +1,4 @@
 -- Refused for its ranges, refused for its wait or drop, or judged.
-use borrow.Author.Rules.{rules}
-use borrow.Author.Tests.{not-true, not-false}
 use mathlib.Core.Path.{◌≡◌, sym, ap, ◌∙◌}
 use mathlib.Core.Bool.{Bool, not, ◌&&◌}
 use Rattle.registers.specs.Registers.{is_idle}

@@ -1,6 +1,4 @@
 -- Refused for its ranges, or the call in range.
-use borrow.Author.Rules.{rules}
-use borrow.Author.Tests.{not-true, not-false}
 use mathlib.Core.Path.{sym, ap, ◌∙◌}
 use Rattle.registers.proofs.InRange.{range_test}
 use Rattle.bridge.specs.Answering.{Answered, given, lent}

@@ -1,5 +1,4 @@
 -- The interface is the flags', and N the size register's.
-use borrow.Author.Rules.{rules}
 use Rattle.bridge.proofs.judging.context.Goals as goal
 
 pub returns : goal.returns

@@ -1,5 +1,4 @@
 -- Flag by flag.
-use borrow.Author.Rules.{rules}
 use Rattle.bridge.proofs.judging.interface.Goals as goal
 
 pub returns-then-i2c_selected : goal.returns-then-i2c_selected

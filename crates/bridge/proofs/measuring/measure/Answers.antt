@@ -1,5 +1,4 @@
 -- Decided, applied, marked, sensed, received and responded to.
-use borrow.Author.Rules.{rules}
 use mathlib.Core.Path.{◌∙◌}
 use Rattle.registers.specs.Registers.{with_drop}
 use Rattle.bridge.proofs.Measures.{applied, applied_small, measured, received_size, responded_size}

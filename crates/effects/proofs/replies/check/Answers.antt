@@ -1,5 +1,4 @@
 -- The code that the sample gives, stored.
-use borrow.Author.Rules.{rules}
 use Rattle.effects.proofs.replies.check.Goals as goal
 
 pub returns : goal.returns

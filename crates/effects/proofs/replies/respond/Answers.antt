@@ -1,5 +1,4 @@
 -- Answer by answer, what it leaves and sends.
-use borrow.Author.Rules.{rules}
 use Rattle.effects.proofs.replies.respond.Goals as goal
 
 pub returns-in-Silent : goal.returns-in-Silent

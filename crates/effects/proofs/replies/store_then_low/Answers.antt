@@ -1,5 +1,4 @@
 -- By whether reports are on; data sent leaves ERROR.
-use borrow.Author.Rules.{rules}
 use mathlib.Core.Path.{sym, ◌∙◌}
 use mathlib.Core.Bool.{true, false}
 use Rattle.packet.specs.Packet.{low_bytes}

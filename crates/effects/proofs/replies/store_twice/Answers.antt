@@ -1,5 +1,4 @@
 -- By whether reports are on.
-use borrow.Author.Rules.{rules}
 use Rattle.decisions.specs.Said.{error_after, replies_of}
 use Rattle.effects.proofs.replies.store_twice.Goals as goal
 

@@ -1,5 +1,4 @@
 -- Reply by reply, its bytes.
-use borrow.Author.Rules.{rules}
 use native.Mathlib.Omega.{arith}
 use Rattle.wire.proofs.Buffers.{written_none, written_append, placed}
 use Rattle.effects.proofs.sending.put_reply.Goals as goal

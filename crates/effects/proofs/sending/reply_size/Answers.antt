@@ -1,5 +1,4 @@
 -- Reply by reply, how long it is.
-use borrow.Author.Rules.{rules}
 use native.Mathlib.Omega.{arith}
 use Rattle.effects.proofs.sending.reply_size.Goals as goal
 

@@ -1,5 +1,4 @@
 -- Taken, the state is stored; refused, its number.
-use borrow.Author.Rules.{rules}
 use mathlib.Core.Path.{refl}
 use Rattle.export.proofs.answers.finish.Goals as goal
 

@@ -1,5 +1,4 @@
 -- The state of the bytes, and the numbers as they are.
-use borrow.Author.Rules.{rules}
 use Rattle.export.proofs.arguments.cursor_of.Goals as goal
 
 pub returns : goal.returns

@@ -1,5 +1,4 @@
 -- Kind by kind.
-use borrow.Author.Rules.{rules}
 use borrow.Author.Tests.{eq-eqb, ne_eqb}
 use Rattle.export.proofs.arguments.event_of.Goals as goal
 

@@ -1,6 +1,4 @@
 -- Test by test, the lowest number that applies.
-use borrow.Author.Rules.{rules}
-use borrow.Author.Tests.{not-true, not-false}
 use mathlib.Core.Path.{sym, ◌∙◌}
 use Rattle.export.proofs.arguments.no_event.Goals as goal
 

@@ -1,6 +1,4 @@
 -- Refused for its ranges, refused as it was measured, or taken.
-use borrow.Author.Rules.{rules}
-use borrow.Author.Tests.{not-true, not-false}
 use mathlib.Core.Path.{sym, ap, ◌∙◌}
 use native.Mathlib.Omega.{arith}
 use Rattle.registers.proofs.InRange.{range_test}

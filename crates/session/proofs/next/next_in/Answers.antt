@@ -1,5 +1,4 @@
 -- By the body's content.
-use borrow.Author.Rules.{rules}
 use borrow.Author.Tests.{eq-eqb, ne_eqb}
 use Rattle.session.proofs.next.next_in.Goals as goal
 

@@ -1,5 +1,4 @@
 -- No step, or one.
-use borrow.Author.Rules.{rules}
 use Rattle.session.proofs.Advances.{work, advances, stays}
 use Rattle.session.proofs.replay.advance.Goals as goal
 

@@ -1,5 +1,4 @@
 -- The start, but done.
-use borrow.Author.Rules.{rules}
 use Rattle.session.proofs.replay.ended.Goals as goal
 
 pub returns : goal.returns

@@ -1,9 +1,7 @@
 -- The goals that the search leaves.
-use borrow.Author.Rules.{rules}
 use native.Mathlib.Omega.{arith}
-use Prim.Native.Nat.{◌-◌}
 use lib.ListN.{length-take, length-drop}
-use Rattle.session.proofs.Going.{Going, same, going_first, more, roomy, room_written, room_steps, going_step, runs_over, runs_full}
+use Rattle.session.proofs.Going.{same, going_first, more, roomy, room_written, room_steps, going_step, runs_over, runs_full}
 use Rattle.session.proofs.replay.go_on.Goals as goal
 
 pub loop-made-init : goal.loop-made-init

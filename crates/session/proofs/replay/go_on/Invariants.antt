@@ -1,9 +1,6 @@
 -- Step after step while there is room.
-use borrow.Author.Rules.{rules}
-use native.Mathlib.Omega.{arith}
 use Prim.Native.Nat.{◌-◌}
-use lib.ListN.{length-take, length-drop}
-use Rattle.session.proofs.Going.{Going, same, going_first, more, roomy, room_written, room_steps, going_step, runs_over, runs_full}
+use Rattle.session.proofs.Going.{Going}
 use Rattle.session.proofs.replay.go_on.Given as goal
 
 abbrev pub invariant-loop-made : goal.invariant-loop-made

@@ -1,5 +1,4 @@
 -- A part of the file, or none.
-use borrow.Author.Rules.{rules}
 use lib.ListN.{length}
 use Rattle.records.proofs.Bodies.{part_of}
 use Rattle.session.proofs.replay.lent.Goals as goal

@@ -1,5 +1,4 @@
 -- The bridge of the factory start.
-use borrow.Author.Rules.{rules}
 use Rattle.session.proofs.replay.start.Goals as goal
 
 pub returns : goal.returns

@@ -1,5 +1,4 @@
 -- The last record, and a cursor that is over.
-use borrow.Author.Rules.{rules}
 use Rattle.session.proofs.Playing.{ran_last}
 use Rattle.session.proofs.steps.last.Goals as goal
 

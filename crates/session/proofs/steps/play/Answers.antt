@@ -1,5 +1,4 @@
 -- The body's events, and the cursor after them or the refusal's record.
-use borrow.Author.Rules.{rules}
 use native.Mathlib.Omega.{arith}
 use lib.ListN.{length-take, length-drop}
 use Rattle.session.proofs.Playing.{place_fits, sample_fits, refusal_fits, read_fits, refused_within, refused_same, played_on, played_refused}

@@ -1,5 +1,4 @@
 -- The session's size, a refusal, the end, or a body.
-use borrow.Author.Rules.{rules}
 use borrow.Enum.Refused.{opened}
 use mathlib.Core.Path.{sym, ◌∙◌}
 use native.Mathlib.Omega.{arith}

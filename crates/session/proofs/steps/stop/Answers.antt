@@ -1,5 +1,4 @@
 -- The record of the refusal, and a cursor that is over.
-use borrow.Author.Rules.{rules}
 use Rattle.session.proofs.Playing.{ran_stop}
 use Rattle.session.proofs.steps.stop.Goals as goal
 

@@ -1,5 +1,4 @@
 -- By its content: a refusal, samples, no event, or events.
-use borrow.Author.Rules.{rules}
 use borrow.Enum.Refused.{opened}
 use mathlib.Core.Path.{sym, ◌∙◌}
 use native.Mathlib.Omega.{arith}

@@ -1,5 +1,4 @@
 -- The ports, and then CS or SS.
-use borrow.Author.Rules.{rules}
 use Rattle.lines.proofs.Rows.{then}
 use Rattle.switch_on.proofs.actions.put.Goals as goal
 

@@ -1,5 +1,4 @@
 -- By the interface selected.
-use borrow.Author.Rules.{rules}
 use mathlib.Core.Path.{refl, sym, ◌∙◌}
 use Rattle.wire.proofs.Buffers.{overwrite_none}
 use Rattle.switch_on.proofs.actions.put_select.Goals as goal

@@ -1,5 +1,4 @@
 -- By the interface selected.
-use borrow.Author.Rules.{rules}
 use Rattle.switch_on.proofs.actions.size.Goals as goal
 
 pub returns-then-i2c_selected : goal.returns-then-i2c_selected

@@ -1,5 +1,4 @@
 -- By whether the stored image has ten bytes.
-use borrow.Author.Rules.{rules}
 use borrow.Author.Tests.{eq-eqb, ne_eqb}
 use Rattle.settings.proofs.Good.{good_size}
 use Rattle.switch_on.proofs.images.eprom.Goals as goal

@@ -1,5 +1,4 @@
 -- Good and autoloaded, or not.
-use borrow.Author.Rules.{rules}
 use mathlib.Core.Path.{ap, ◌∙◌}
 use Rattle.registers.specs.Registers.{autoload_on}
 use Rattle.switch_on.proofs.SwitchOutcomes.{used_stored, used_factory}

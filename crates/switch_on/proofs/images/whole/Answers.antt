@@ -1,5 +1,4 @@
 -- A list of ten is its elements.
-use borrow.Author.Rules.{rules}
 use mathlib.Core.Path.{sym}
 use Rattle.settings.proofs.Good.{image_listed}
 use Rattle.switch_on.proofs.images.whole.Goals as goal

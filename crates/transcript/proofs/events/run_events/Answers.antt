@@ -1,5 +1,4 @@
 -- A state that breaks a range, or event after event, at most as many as there are.
-use borrow.Author.Rules.{rules}
 use mathlib.Core.Path.{sym, ◌∙◌}
 use lib.ListN.{length}
 use Rattle.registers.proofs.InRange.{range_test}

@@ -1,10 +1,8 @@
 -- The goals that the search leaves.
-use borrow.Author.Rules.{rules}
 use native.Mathlib.Omega.{arith}
-use Prim.Native.Nat.{◌-◌}
 use lib.ListN.{length-take, length-drop}
 use Rattle.records.specs.Contents.{events_of}
-use Rattle.transcript.proofs.Reaching.{Reaching, same, body_first, reached_end, more, within, roomy, in_range, body_used, body_written, body_step, body_same, body_refused}
+use Rattle.transcript.proofs.Reaching.{same, body_first, reached_end, more, within, roomy, in_range, body_used, body_written, body_step, body_same, body_refused}
 use Rattle.transcript.proofs.events.run_in_range.Goals as goal
 
 pub loop-read-init : goal.loop-read-init

@@ -1,10 +1,7 @@
 -- Event after event while there is room.
-use borrow.Author.Rules.{rules}
-use native.Mathlib.Omega.{arith}
 use Prim.Native.Nat.{◌-◌}
-use lib.ListN.{length-take, length-drop}
 use Rattle.records.specs.Contents.{events_of}
-use Rattle.transcript.proofs.Reaching.{Reaching, same, body_first, reached_end, more, within, roomy, in_range, body_used, body_written, body_step, body_same, body_refused}
+use Rattle.transcript.proofs.Reaching.{Reaching}
 use Rattle.transcript.proofs.events.run_in_range.Given as goal
 
 abbrev pub invariant-loop-read : goal.invariant-loop-read

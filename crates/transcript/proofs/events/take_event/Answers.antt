@@ -1,6 +1,4 @@
 -- The event as it was measured is its call's answer: refused, or the two records written.
-use borrow.Author.Rules.{rules}
-use borrow.Author.Tests.{not-true, not-false}
 use mathlib.Core.Path.{sym, ◌∙◌}
 use Rattle.registers.specs.Ranges.{Sized}
 use Rattle.transcript.proofs.Carried.{event_refused, actions_fit, says_size, replies_fit, event_accepted}

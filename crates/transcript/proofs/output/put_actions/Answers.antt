@@ -1,5 +1,4 @@
 -- The actions stand behind room for their header, which is then put in front of them.
-use borrow.Author.Rules.{rules}
 use Rattle.transcript.proofs.Carried.{headed_as}
 use Rattle.transcript.proofs.output.put_actions.Goals as goal
 

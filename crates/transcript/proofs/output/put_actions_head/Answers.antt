@@ -1,5 +1,4 @@
 -- No action, or a header in front of them.
-use borrow.Author.Rules.{rules}
 use Rattle.transcript.proofs.Heads.{headed_none, headed_some}
 use Rattle.transcript.proofs.output.put_actions_head.Goals as goal
 

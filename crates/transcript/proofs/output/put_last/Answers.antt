@@ -1,5 +1,4 @@
 -- One byte: whether something is waited for.
-use borrow.Author.Rules.{rules}
 use Rattle.transcript.proofs.output.put_last.Goals as goal
 
 pub returns : goal.returns

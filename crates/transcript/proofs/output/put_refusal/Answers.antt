@@ -1,5 +1,4 @@
 -- The number and the place, low bytes first.
-use borrow.Author.Rules.{rules}
 use Rattle.transcript.proofs.output.put_refusal.Goals as goal
 
 pub returns : goal.returns

@@ -1,5 +1,4 @@
 -- No byte, or a header and then the reply.
-use borrow.Author.Rules.{rules}
 use borrow.Author.Tests.{eq-eqb, ne_eqb}
 use mathlib.Core.Path.{refl, sym, ◌∙◌}
 use Rattle.wire.proofs.Buffers.{written_none, written_after}
