@@ -34,8 +34,11 @@ fn main(rt: HostRuntime) {
         return;
     }
     let mut text = [0u8; 262144];
-    let Input::Whole(n) = input::read_shorter(&rt, &mut text, b"assemble: more than 262,143 bytes\n")
-    else {
+    let Input::Whole(n) = input::read_shorter(
+        &rt,
+        &mut text,
+        b"assemble: more than 262,143 bytes\n",
+    ) else {
         return;
     };
     write(&rt, &text[..n]);

@@ -46,7 +46,8 @@ fn main(rt: HostRuntime) {
         return;
     }
     let mut file = io::large_buffer();
-    let Input::Whole(n) = input::read_shorter(&rt, &mut file, b"cases: more than 65,535 bytes\n") else {
+    let Input::Whole(n) = input::read_shorter(&rt, &mut file, b"cases: more than 65,535 bytes\n")
+    else {
         return;
     };
     show_all(&file[..n]);

@@ -34,7 +34,8 @@ fn main(rt: HostRuntime) {
         return;
     }
     let mut bytes = io::large_buffer();
-    let Input::Whole(n) = input::read_shorter(&rt, &mut bytes, b"judge: more than 65,535 bytes\n") else {
+    let Input::Whole(n) = input::read_shorter(&rt, &mut bytes, b"judge: more than 65,535 bytes\n")
+    else {
         return;
     };
     answer(&bytes[..n]);

@@ -1,0 +1,10 @@
+-- The part of the session left falls, and the buffer keeps its length.
+use Rattle.std.proofs.Common.{◌≡◌, length}
+use Rattle.session.specs.Runs.{left}
+use Rattle.replay.proofs.write_transcript.Given as goal
+
+abbrev pub invariant-loop-cursor : goal.invariant-loop-cursor
+invariant-loop-cursor l = 16384 ≡ length l.out
+
+abbrev pub decreases-loop-cursor : goal.decreases-loop-cursor
+decreases-loop-cursor l = left l.session l.cursor
