@@ -1,5 +1,7 @@
 // Makes a session of a script, which is read from standard input or from the file that the argument names, and writes it to standard output.
 // A script that is wrong gets a line on standard error, and nothing is written.
+#![tactic(auto)]
+
 use input::Input;
 use text::Stop;
 

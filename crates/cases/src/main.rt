@@ -1,5 +1,7 @@
 // Answers the stored cases of the file that the argument names and writes a line for each. A case is its kind, its length (16 bits,
 // little-endian) and its body: kind 1 asks the judge, 2 switches on, and 3 replays a session.
+#![tactic(auto)]
+
 mod judged;
 mod replayed;
 mod switched;

@@ -1,6 +1,8 @@
 // Drives `step` with the events of standard input and writes what each call answers. An event is its kind (0 a byte, 1 a line
 // fault), its value, how many samples it is lent, and these. An answer is the outcome (0 taken, else the refusal's number), the
 // samples used, the reply bytes' and the actions' number (the last in two bytes), the reply bytes and the actions.
+#![tactic(auto)]
+
 use bridge::{Bridge, Outcome, Stepped};
 use registers::{Event, Fault};
 

@@ -1,5 +1,7 @@
 // Judges command bytes from the factory start: those of standard input, or of the file that the argument names. Prints `whole`,
 // `open` or `wrong at K (CODE)` in a line.
+#![tactic(auto)]
+
 use bridge::Judgement;
 use grammar::Verdict;
 use input::Input;

@@ -1,4 +1,6 @@
 // Replays the session of standard input, or of the file that the argument names, and writes its transcript to standard output.
+#![tactic(auto)]
+
 ghost use Rattle.std.specs.Prelude.{◌≡◌, false, ◌<◌, ◌≤◌, length};
 ghost use Rattle.session.specs.Runs.{left};
 ghost use Rattle.transcript.specs.Transcript.{most_output};

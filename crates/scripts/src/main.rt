@@ -1,5 +1,7 @@
 // Assembles the stored scripts of the file that the argument names and writes a line for each: how many bytes it makes and a sum
 // of them, or what is wrong with it. A script is its length (16 bits, little-endian) and its text.
+#![tactic(auto)]
+
 ghost use Rattle.std.specs.Prelude.{◌<◌};
 
 use input::Input;

@@ -1,5 +1,7 @@
 // Writes a session, that of standard input or of the file that the argument names, as a Value Change Dump (IEEE 1364) of the lines
 // and the ports' registers.
+#![tactic(auto)]
+
 mod dump;
 mod waveform;
 

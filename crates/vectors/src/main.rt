@@ -1,6 +1,8 @@
 // Runs the stored sessions of the file that the argument names, compares each transcript with the stored one, and prints how
 // many were run and how many differ. A vector is the session's length (16 bits) and the transcript's (32 bits), little-endian,
 // the session and the transcript.
+#![tactic(auto)]
+
 ghost use Rattle.std.specs.Prelude.{◌≡◌, false, ◌<◌, ◌≤◌};
 ghost use Rattle.io.specs.Counts.{IsPrefixLen};
 ghost use Rattle.session.specs.Runs.{left};

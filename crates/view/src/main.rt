@@ -1,4 +1,6 @@
 // Shows the session of standard input, or of a named file, in words: a block for each event, and a summary.
+#![tactic(auto)]
+
 mod events;
 mod numbers;
 mod output;
