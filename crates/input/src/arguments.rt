@@ -1,5 +1,5 @@
 // The arguments of a program: options, which start with `-`, and at most one name of a file. What a word is by its bytes is proved. Which
-// words the arguments are, the contracts of the system's calls don't say, so a function that asks for them says of them only how long a word is.
+// words the arguments are, the contracts of the system's calls don't say, so a function that asks for them promises nothing of their bytes.
 ghost use Rattle.std.specs.Prelude.{◌≡◌, ◌+◌, ◌≤◌, length, drop};
 ghost use Rattle.io.specs.Counts.{IsPrefixLen};
 ghost use Rattle.input.specs.Arguments.{Among, split_at_spaces, index_of, Tells, is_option, IsKind};
