@@ -1,4 +1,4 @@
-// What C links: include/bridge.h. A state goes by its bytes, and every answer but the number by a pointer.
+// What C links by the crate export_c: include/bridge.h. A state goes by its bytes, and every answer but the number by a pointer.
 #![tactic(auto)]
 
 ghost use Rattle.std.specs.Prelude.{◌≡◌};
@@ -16,8 +16,7 @@ use refusals::Refusal;
 use state_bytes::{decoding, encoding};
 
 // The state that every session starts with goes to `state`.
-#[unsafe(no_mangle)]
-pub extern "C" fn bridge_factory_start(state: &mut [u8]) -> u8
+pub fn bridge_factory_start(state: &mut [u8]) -> u8
     ensures { start_call result state.new ≡ start_gives state.old }
 {
     if state.len() != decoding::SIZE {
@@ -30,8 +29,7 @@ pub extern "C" fn bridge_factory_start(state: &mut [u8]) -> u8
 }
 
 // One event, by its kind and its value.
-#[unsafe(no_mangle)]
-pub extern "C" fn bridge_step(
+pub fn bridge_step(
     state: &mut [u8],
     kind: u8,
     value: u8,
@@ -81,8 +79,7 @@ pub extern "C" fn bridge_step(
 }
 
 // Judges command bytes from a start.
-#[unsafe(no_mangle)]
-pub extern "C" fn bridge_judge(
+pub fn bridge_judge(
     state: &[u8],
     bytes: &[u8],
     verdict: &mut u8,
@@ -109,8 +106,7 @@ pub extern "C" fn bridge_judge(
 }
 
 // Switches on from two images of settings.
-#[unsafe(no_mangle)]
-pub extern "C" fn bridge_switch_on<'a>(
+pub fn bridge_switch_on<'a>(
     stored: &'a [u8],
     factory: &'a [u8],
     cycles: u8,
@@ -138,8 +134,7 @@ pub extern "C" fn bridge_switch_on<'a>(
 }
 
 // Replays a session as far as surely fits into the output; the cursor is changed to where to go on.
-#[unsafe(no_mangle)]
-pub extern "C" fn bridge_replay(
+pub fn bridge_replay(
     state: &mut [u8],
     at: &mut usize,
     end: &mut usize,
