@@ -24,7 +24,7 @@ pub enum Input {
     Failed,
 }
 
-// Says on standard error what failed and why.
+// Says on standard error what failed and why. A contract could only speak of standard error, so there is none.
 pub fn fail(rt: &impl Eprint, what: &[u8], why: Error) {
     io::write_all(STDERR_FILENO, what);
     let _ = eprintln!(rt; ": {why}");
@@ -79,7 +79,8 @@ fn open_named<R: Files + Eprint>(rt: &R, name: &[u8]) -> Option<R::File> {
     }
 }
 
-// Opens the file that the first argument names. If it can't, a line on standard error says why.
+// Opens the file that the first argument names. If it can't, a line on standard error says why. Which file that is, only the system
+// knows, so there is no contract.
 pub fn open<R: Env + Files + Eprint>(rt: &R) -> Option<R::File> {
     let mut name = io::buffer();
     let n = arguments::argument(rt, 1, &mut name);
