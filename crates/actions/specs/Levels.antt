@@ -1,7 +1,7 @@
 -- What actions make of a line's level, as a Value Change Dump (IEEE 1364) shows it.
-use Rattle.std.specs.Prelude.{ℕ, Bool, cond, ◌&&◌, List, [], ◌∷◌, eqb, leb}
+use Rattle.std.specs.Prelude.{ℕ, Bool, cond, ◌&&◌, List, [], ◌∷◌, eqb, leb, Option, Some, None, option_map, false}
 use Rattle.wire.specs.Action.{Action, release, drive_low, drive_high, sample_line}
-use Rattle.actions.specs.Reading.{no_action, wait_of}
+use Rattle.actions.specs.Reading.{wait_of}
 
 -- the level's letter: 0, 1 or z
 abbrev pub low : ℕ
@@ -19,13 +19,13 @@ driven_level verb = cond (eqb verb drive_low) low (cond (eqb verb drive_high) hi
 
 -- THE FIRST ACTION of a line with a verb from one to another, none if there is none, and how many microseconds are waited right before
 -- it; so many were waited right before the first of all
-unfoldable pub first_of : ℕ → ℕ → ℕ → ℕ → List Action → Action × ℕ
-first_of line least most waited [] = (no_action, 0)
-first_of line least most waited (a ∷ as') = cond (eqb a.line line && leb least a.verb && leb a.verb most) (a, waited) (first_of line least most (wait_of a) as')
+unfoldable pub first_of : ℕ → ℕ → ℕ → ℕ → List Action → Option (Action × ℕ)
+first_of line least most waited [] = None
+first_of line least most waited (a ∷ as') = cond (eqb a.line line && leb least a.verb && leb a.verb most) (Some (a, waited)) (first_of line least most (wait_of a) as')
 
--- the level that actions first drive a line to; free if they don't
-abbrev pub first_driven : ℕ → List Action → ℕ
-first_driven line as' = driven_level (first_of line drive_low drive_high 0 as').0.verb
+-- the level that actions first drive a line to, if they drive it
+abbrev pub first_driven : ℕ → List Action → Option ℕ
+first_driven line as' = option_map (λ f. driven_level f.0.verb) (first_of line drive_low drive_high 0 as')
 
 -- the longest wait, in microseconds, through which a line shows the level sampled after it
 abbrev pub near : ℕ
@@ -33,5 +33,9 @@ near = 30
 
 -- WHETHER A LINE SHOWS THE LEVEL SAMPLED NEXT: of what drives, releases or samples it a sample comes first, and the wait right before
 -- that one, if there is one, is not longer
+abbrev pub is_near_sample : Option (Action × ℕ) → Bool
+is_near_sample None = false
+is_near_sample (Some (a, waited)) = eqb a.verb sample_line && leb waited near
+
 abbrev pub sampled_next : ℕ → List Action → Bool
-sampled_next line as' = eqb (first_of line release sample_line 0 as').0.verb sample_line && leb (first_of line release sample_line 0 as').1 near
+sampled_next line as' = is_near_sample (first_of line release sample_line 0 as')

@@ -1,19 +1,16 @@
 -- Actions read back (01, "What goes in and comes out"): "An action is four bytes: verb, line, value (16 bits, little-endian)".
-use Rattle.std.specs.Prelude.{ℕ, ◌+◌, ◌*◌, ◌<◌, ◌≡◌, Bool, cond, ◌||◌, List, [], ◌∷◌, eqb, length}
-use Rattle.wire.specs.Action.{Action, action, bytes_of, no_line, wait_microseconds, wait_milliseconds, wait_cycles}
+use Rattle.std.specs.Prelude.{ℕ, ◌+◌, ◌*◌, ◌<◌, ◌≡◌, Bool, cond, ◌||◌, List, [], ◌∷◌, eqb, length, drop, Option, Some, None}
+use Rattle.wire.specs.Action.{Action, action, bytes_of, wait_microseconds, wait_milliseconds, wait_cycles}
 use Rattle.wire.specs.Buffer.{fits_in}
 use Rattle.wire.specs.Sample.{byte_at}
 
--- what stands for an action where there is none: FF is no verb
-abbrev pub no_action : Action
-no_action = action 0xFF no_line 0
+-- AN ACTION of four bytes
+abbrev pub action_of : List ℕ → Action
+action_of bytes = action (byte_at bytes 0) (byte_at bytes 1) (byte_at bytes 2 + 256 * byte_at bytes 3)
 
 -- THE ACTION AT A PLACE; none where four bytes are not left
-abbrev pub action_at : List ℕ → ℕ → Action
-action_at bytes at =
-    cond (fits_in (length bytes) at 4)
-    (action (byte_at bytes at) (byte_at bytes (at + 1)) (byte_at bytes (at + 2) + 256 * byte_at bytes (at + 3)))
-    no_action
+abbrev pub action_at : List ℕ → ℕ → Option Action
+action_at bytes at = cond (fits_in (length bytes) at 4) (Some (action_of (drop at bytes))) None
 
 -- ALL ACTIONS in bytes, in order; fewer than four bytes at the end are none
 unfoldable pub actions_in : List ℕ → List Action

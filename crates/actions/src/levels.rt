@@ -1,11 +1,10 @@
 // What the actions of an event make of a line's level.
-ghost use Rattle.std.specs.Prelude.{◌≡◌};
-ghost use Rattle.wire.specs.Action.{action};
+ghost use Rattle.std.specs.Prelude.{◌≡◌, option_map};
 ghost use Rattle.actions.specs.Reading.{actions_in};
 ghost use Rattle.actions.specs.Levels.{driven_level, first_of, sampled_next, first_driven};
 
-use crate::reading::{Action, action_at, no_action, wait_of};
-use wire::{ACTION_BYTES, VERB_DRIVE_HIGH, VERB_DRIVE_LOW, VERB_RELEASE, VERB_SAMPLE_LINE};
+use crate::reading::{action_of, wait_of};
+use wire::{Action, VERB_DRIVE_HIGH, VERB_DRIVE_LOW, VERB_RELEASE, VERB_SAMPLE_LINE};
 
 // A wait of more than so many microseconds beside a sample shows the sampled level only so near to it.
 pub const NEAR: u64 = 30;
@@ -21,8 +20,7 @@ pub const FREE: u8 = b'z';
 pub fn driven_level(a: Action) -> u8
     ensures { result ≡ driven_level a.verb }
 {
-    let verb = a.verb;
-    match verb {
+    match a.verb {
         VERB_DRIVE_LOW => LOW,
         VERB_DRIVE_HIGH => HIGH,
         _ => FREE,
@@ -37,37 +35,36 @@ struct Found {
 }
 
 // The first action of a line with a verb from one to another; none if there is none.
-fn first_of(actions: &[u8], line: usize, least: u8, most: u8) -> Found
-    ensures { (action result.action.verb result.action.line result.action.value, result.waited) ≡ first_of line least most 0 (actions_in actions.now) }
+fn first_of(actions: &[u8], line: usize, least: u8, most: u8) -> Option<Found>
+    ensures { option_map (λ f. (f.action, f.waited)) result ≡ first_of line least most 0 (actions_in actions.now) }
 {
     let mut waited: u64 = 0;
-    let mut at: usize = 0;
-    while ACTION_BYTES <= actions.len() - at {
-        let a = action_at(actions, at);
-        at += ACTION_BYTES;
-        if (a.line as usize == line) & (least <= a.verb) & (a.verb <= most) {
-            return Found { action: a, waited };
+    let mut left = actions;
+    while let Some((bytes, after)) = left.split_first_chunk() {
+        let action = action_of(*bytes);
+        if (action.line as usize == line) & (least <= action.verb) & (action.verb <= most) {
+            return Some(Found { action, waited });
         }
-        waited = wait_of(a);
+        waited = wait_of(action);
+        left = after;
     }
-    Found {
-        action: no_action(),
-        waited: 0,
-    }
+    None
 }
 
 // Whether the next thing that happens to a line is a sample, with no long wait right before it.
 pub fn is_sampled(actions: &[u8], line: usize) -> bool
     ensures { result ≡ sampled_next line (actions_in actions.now) }
 {
-    let next = first_of(actions, line, VERB_RELEASE, VERB_SAMPLE_LINE);
-    (next.action.verb == VERB_SAMPLE_LINE) & (next.waited <= NEAR)
+    match first_of(actions, line, VERB_RELEASE, VERB_SAMPLE_LINE) {
+        Some(next) => (next.action.verb == VERB_SAMPLE_LINE) & (next.waited <= NEAR),
+        None => false,
+    }
 }
 
-// The level that actions first drive a line to; free if they don't drive it.
-pub fn first_driven(actions: &[u8], line: usize) -> u8
+// The level that actions first drive a line to, if they drive it.
+pub fn first_driven(actions: &[u8], line: usize) -> Option<u8>
     ensures { result ≡ first_driven line (actions_in actions.now) }
 {
-    let first = first_of(actions, line, VERB_DRIVE_LOW, VERB_DRIVE_HIGH);
-    driven_level(first.action)
+    let first = first_of(actions, line, VERB_DRIVE_LOW, VERB_DRIVE_HIGH)?;
+    Some(driven_level(first.action))
 }

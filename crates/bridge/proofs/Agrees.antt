@@ -15,7 +15,7 @@ use Rattle.registers.specs.declared.Wait.TheVariants as v
 use Rattle.registers.specs.declared.Event.TheVariants as e
 use Rattle.registers.proofs.InRange.{packet_left, timings_left}
 use Rattle.decisions.specs.Said.{codes_of}
-use Rattle.commands.specs.Commands.{command_of}
+use Rattle.commands.specs.Commands.{command_of, extended_command_of}
 use Rattle.decisions.specs.Decisions.{dropped}
 use Rattle.decisions.specs.declared.Decision.{Decision}
 use Rattle.decisions.specs.Effects.{carried_out}
@@ -36,11 +36,11 @@ module _ (page : Page) (shared : Shared) (held : List ℕ) (b : ℕ) (h : b < 25
   decision_agrees : (a : Wait) → InRange (at a) → DecisionAgrees (at a) (scan_at (place_of a) (context_of (at a)) b) (byte_decision (at a) a b)
   decision_agrees v.Nothing n =
       let s = at v.Nothing in
-      subst (λ (o : Opening). DecisionAgrees s (opened o (context_of s) b) (command_decision s (command_of false b))) (sym (opening_is b h)) (command_agrees page shared held b n.page.one_interface (command_of false b) (between_is b))
+      subst (λ (o : Opening). DecisionAgrees s (opened o (context_of s) b) (command_decision s (command_of b))) (sym (opening_is b h)) (command_agrees page shared held b n.page.one_interface (command_of b) (between_is b))
   decision_agrees (v.One a) n = operand_agrees (at (v.One a)) b a
   decision_agrees v.Extended n =
       let s = at v.Extended in
-      subst (λ (o : Opening). DecisionAgrees s (opened o (context_of s) b) (command_decision s (command_of true b))) (sym (extension_is b h)) (after_agrees s b (command_of true b) (extended_is b))
+      subst (λ (o : Opening). DecisionAgrees s (opened o (context_of s) b) (command_decision s (extended_command_of b))) (sym (extension_is b h)) (after_agrees s b (extended_command_of b) (extended_is b))
   decision_agrees (v.Packet left exchange) n =
       let s = at (v.Packet left exchange) in
       packet_agrees s b left exchange (packet_left s left exchange n refl).0

@@ -4,6 +4,7 @@ use mathlib.Core.Path.{◌≡◌, refl, sym, ap, subst, ◌∙◌}
 use mathlib.Core.Bool.{Bool, true, false, false≢true}
 use mathlib.Core.List.{List}
 use lib.ListN.{length}
+use Rattle.std.specs.Prelude.{Ok}
 use Rattle.codes.specs.Codes.{any_rejecting}
 use Rattle.wire.specs.Action.{Action, bytes_of}
 use Rattle.wire.specs.Buffer.{overwrite}
@@ -18,17 +19,17 @@ use Rattle.decisions.specs.Effects.{Effect, sent_by}
 use Rattle.decisions.proofs.Rejects.{event_rejects}
 use Rattle.decisions.proofs.Samples.{event_takes, event_same}
 use Rattle.refusals.specs.declared.Refusal.TheVariants.{Ranges, Actions, Replies}
-use Rattle.bridge.specs.Answering.{Bridge, Taken, Lent, Given, effect, accepted, answer_of}
+use Rattle.bridge.specs.Answering.{Bridge, Lent, Given, effect, accepted, answer_of}
 use Rattle.bridge.specs.Demands.{filled, OnlyErrorChanged, Demand2, SameSamples}
 use Rattle.bridge.proofs.StepOutcomes.{room, Went, refused_for, was_accepted, went}
 use Rattle.bridge.proofs.Demand1.{not_taken, demand_1}
 
 module _ (b : Bridge) (e : Event) (l : Lent) where
-  gives : (g : Given) → Went b e l g → g.answer.outcome ≡ Taken → g ≡ accepted (effect b e l) l
+  gives : (g : Given) → Went b e l g → g.answer.outcome ≡ Ok tt → g ≡ accepted (effect b e l) l
   gives g (refused_for r w) z = not_taken z
   gives g (was_accepted n) z = refl
 
-  module _ (z : (answer_of b e l).answer.outcome ≡ Taken) where
+  module _ (z : (answer_of b e l).answer.outcome ≡ Ok tt) where
     is : answer_of b e l ≡ accepted (effect b e l) l
     is = gives (answer_of b e l) (went b e l) z
 

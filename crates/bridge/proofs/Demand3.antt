@@ -4,6 +4,7 @@ use mathlib.Core.Path.{◌≡◌, refl, sym, ap, subst}
 use mathlib.Core.Bool.{true, false, false≢true}
 use mathlib.Core.List.{List, [], ◌∷◌}
 use native.Mathlib.Omega.{arith}
+use Rattle.std.specs.Prelude.{Ok, is_err}
 use Rattle.registers.specs.Ranges.{InRange}
 use Rattle.registers.specs.declared.Wait.{Wait}
 use Rattle.registers.specs.declared.Wait.TheVariants as v
@@ -20,8 +21,8 @@ use Rattle.grammar.specs.Machines.{FirstRejected, ReturnedAt}
 use Rattle.grammar.specs.declared.Verdict.TheVariants.{Wrong}
 use Rattle.grammar.proofs.Follows.{Agree, Follows}
 use Rattle.bridge.specs.Answering.{Bridge, Lent, Given, effect, accepted, answer_of}
-use Rattle.bridge.specs.Demands.{is_refused, machine, bytes_taken, codes_told, Demand3, NoDropMade, CodeForetold, ContextFollowed}
-use Rattle.bridge.specs.Judging.{Judged, judgement_of}
+use Rattle.bridge.specs.Demands.{machine, bytes_taken, codes_told, Demand3, NoDropMade, CodeForetold, ContextFollowed}
+use Rattle.bridge.specs.Judging.{judgement_of}
 use Rattle.bridge.specs.Views.{context_of}
 use Rattle.bridge.proofs.Judges.{judge_call}
 use Rattle.bridge.proofs.View.{place_of, view_of}
@@ -39,11 +40,11 @@ nothing_between (v.Packet m x) q = let z : ◌≡◌ {A = ℕ} 0 1 = cc in absur
 nothing_between (v.Timings m) q = let z : ◌≡◌ {A = ℕ} 0 1 = cc in absurd (omega arith)
 
 -- refused, a call returns the bridge that it was given; taken, the event's
-kept : (b : Bridge) (a : Event) (l : Lent) (g : Given) → Went b a l g → is_refused g.answer.outcome ≡ true → g.answer.bridge ≡ b
+kept : (b : Bridge) (a : Event) (l : Lent) (g : Given) → Went b a l g → is_err g.answer.outcome ≡ true → g.answer.bridge ≡ b
 kept b a l g (refused_for r w) h = refl
 kept b a l g (was_accepted n) h = absurd (false≢true h)
 
-gone : (b : Bridge) (a : Event) (l : Lent) (g : Given) → Went b a l g → is_refused g.answer.outcome ≡ false → g ≡ accepted (effect b a l) l
+gone : (b : Bridge) (a : Event) (l : Lent) (g : Given) → Went b a l g → is_err g.answer.outcome ≡ false → g ≡ accepted (effect b a l) l
 gone b a l g (refused_for r w) h = absurd (false≢true (sym h))
 gone b a l g (was_accepted n) h = refl
 
@@ -83,12 +84,12 @@ code_foretold b n ks k w = (told, foretold)
     bs : List ℕ
     bs = bytes_taken b ks
 
-    told : judgement_of b bs ≡ Judged (Wrong k w) → FirstRejected (codes_told b ks) k × ReturnedAt (codes_told b ks) k w
+    told : judgement_of b bs ≡ Ok (Wrong k w) → FirstRejected (codes_told b ks) k × ReturnedAt (codes_told b ks) k w
     told e =
         let s = ((judge_call b bs).judged (Wrong k w)).0 e in
         ((demand_3 b n ks).first_code k w).1 ((first_is_smallest (context_of b.state) bs k).1 s.1.0, s.1.1)
 
-    foretold : FirstRejected (codes_told b ks) k × ReturnedAt (codes_told b ks) k w → judgement_of b bs ≡ Judged (Wrong k w)
+    foretold : FirstRejected (codes_told b ks) k × ReturnedAt (codes_told b ks) k w → judgement_of b bs ≡ Ok (Wrong k w)
     foretold f =
         let g = ((demand_3 b n ks).first_code k w).0 f in
         ((judge_call b bs).judged (Wrong k w)).1 (n, ((first_is_smallest (context_of b.state) bs k).0 g.0, g.1))

@@ -3,6 +3,7 @@ use Prim.Native.Nat.{ℕ}
 use mathlib.Core.Path.{◌≡◌, refl, ap, ◌∙◌}
 use mathlib.Core.Bool.{Bool, true, false, cond}
 use mathlib.Core.List.{List, [], ◌∷◌}
+use Rattle.std.specs.Prelude.{Ok}
 use Rattle.wire.specs.Buffer.{overwrite}
 use Rattle.registers.specs.Registers.{with_drop, is_idle, fault_code}
 use Rattle.registers.specs.declared.State.{State}
@@ -16,7 +17,7 @@ use Rattle.decisions.specs.Decisions.{dropped}
 use Rattle.decisions.specs.Effects.{Effect, effect_from, carried_out}
 use Rattle.decisions.specs.Events.{byte_decision, effect_of}
 use Rattle.decisions.proofs.Changes.{drop_same}
-use Rattle.bridge.specs.Answering.{Bridge, Taken, Lent, Given, given, acceptance, accepted, answer_of}
+use Rattle.bridge.specs.Answering.{Bridge, Lent, Given, given, acceptance, accepted, answer_of}
 use Rattle.bridge.specs.Demands.{outcome}
 use Rattle.bridge.specs.Views.{context_of}
 use Rattle.bridge.specs.Faults.{FaultKeeps, but_error, FaultInside, FaultCall, faulted, faulted_all, AllTaken, last_code, FaultCosts}
@@ -36,7 +37,7 @@ pub fault_effect : (s : State) (f : Fault) (ss : List ℕ) (m : ℕ) → (effect
 unfolding effect_of effect_from wave_of error_after
 fault_effect s f ss m = refl
 
-fault_taken : (b : Bridge) (c : FaultCall) {pending : Bool} → is_idle b.state.wait ≡ pending → outcome b (e.Fault c.fault) c.lent ≡ Taken → (faulted b c).state ≡ with_drop (but_error b.state (fault_code c.fault)) pending
+fault_taken : (b : Bridge) (c : FaultCall) {pending : Bool} → is_idle b.state.wait ≡ pending → outcome b (e.Fault c.fault) c.lent ≡ Ok tt → (faulted b c).state ≡ with_drop (but_error b.state (fault_code c.fault)) pending
 fault_taken b c i z =
     ap (λ (g : Given). g.answer.bridge.state) ((demand_2 b (e.Fault c.fault) c.lent).gives z) ∙ fault_effect b.state c.fault _ _
     ∙ ap (with_drop (but_error b.state (fault_code c.fault))) i

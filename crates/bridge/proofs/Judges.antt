@@ -5,6 +5,7 @@ use mathlib.Core.Bool.{Bool, true, false, cond, not, ◌&&◌, false≢true}
 use mathlib.Core.List.{List}
 use mathlib.Core.Logic.{◌↔◌, ◌⊎◌, inl, inr}
 use native.Mathlib.Omega.{arith}
+use Rattle.std.specs.Prelude.{Result, Ok, Err}
 use Rattle.codes.proofs.Both.{both_left, both_right}
 use Rattle.registers.specs.Registers.{is_idle}
 use Rattle.registers.specs.Ranges.{state_fits, InRange, BetweenCommands}
@@ -14,10 +15,11 @@ use Rattle.registers.proofs.InRange.{idle_is, range_test}
 use Rattle.grammar.specs.Verdict.{judge_of, Says}
 use Rattle.grammar.specs.declared.Verdict.{Verdict}
 use Rattle.grammar.proofs.Verdicts.{judge_right}
+use Rattle.refusals.specs.declared.Refusal.{Refusal}
 use Rattle.refusals.specs.declared.Refusal.TheVariants.{Ranges, Waits}
 use Rattle.bridge.specs.Answering.{Bridge}
 use Rattle.bridge.specs.Views.{context_of}
-use Rattle.bridge.specs.Judging.{Judgement, Judged, Refused, judgement_of, refused_with, JudgeCall}
+use Rattle.bridge.specs.Judging.{judgement_of, refused_with, JudgeCall}
 
 -- what the test for 12 says: nothing waited for and no drop, or one of them
 test_true : (w : Wait) (pending : Bool) → is_idle w && not pending ≡ true → (w ≡ v.Nothing) × (pending ≡ false)
@@ -30,8 +32,8 @@ test_false w false e = inl (λ q. false≢true (sym e ∙ ap (λ (t : Wait). is_
 
 module _ (b : Bridge) (bs : List ℕ) where
   -- which of the three it was
-  answer : Bool → Bool → Judgement
-  answer fits idle = cond fits (cond idle (Judged (judge_of (context_of b.state) bs)) (Refused Waits)) (Refused Ranges)
+  answer : Bool → Bool → Result Verdict Refusal
+  answer fits idle = cond fits (cond idle (Ok (judge_of (context_of b.state) bs)) (Err Waits)) (Err Ranges)
 
   abbrev Busy : Type 0
   Busy = (¬ (b.state.wait ≡ v.Nothing)) ⊎ (b.state.drop ≡ true)
@@ -40,9 +42,9 @@ module _ (b : Bridge) (bs : List ℕ) where
   busy_not (inl f) c = f c.waits_for_nothing
   busy_not (inr p) c = false≢true (sym c.no_drop ∙ p)
 
-  Right : Judgement → Type 0
+  Right : Result Verdict Refusal → Type 0
   Right j =
-      ((w : Verdict) → (j ≡ Judged w) ↔ (BetweenCommands b.state × Says (context_of b.state) bs w))
+      ((w : Verdict) → (j ≡ Ok w) ↔ (BetweenCommands b.state × Says (context_of b.state) bs w))
       × ((refused_with j ≡ 1) ↔ (¬ InRange b.state)) × ((refused_with j ≡ 12) ↔ (InRange b.state × Busy))
 
   right : (t u : Bool) → state_fits b.state ≡ t → is_idle b.state.wait && not b.state.drop ≡ u → Right (answer t u)
@@ -53,7 +55,7 @@ module _ (b : Bridge) (bs : List ℕ) where
       let c : BetweenCommands b.state = record { in_range = n; waits_for_nothing = i.0; no_drop = i.1 } in (
         λ w. (
           λ z. (c, ((judge_right (context_of b.state) bs).answers w).0 (let x : judge_of (context_of b.state) bs ≡ w = cc in x)),
-          λ s. ap Judged (((judge_right (context_of b.state) bs).answers w).1 s.1),
+          λ s. ap Ok (((judge_right (context_of b.state) bs).answers w).1 s.1),
         ),
         (λ z. absurd (omega (arith, z)), λ m. absurd (m n)),
         (λ z. absurd (omega (arith, z)), λ m. absurd (busy_not m.1 c)),

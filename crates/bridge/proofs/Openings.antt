@@ -9,7 +9,9 @@ use Rattle.grammar.specs.declared.ContextChange.{ContextChange}
 use Rattle.grammar.specs.declared.ContextChange.TheVariants.{Keep, Clear, Select, Configure, Resize}
 use Rattle.grammar.proofs.Lookups.{values, byte_fact}
 use Rattle.codes.proofs.Lookup.{found_all}
-use Rattle.commands.specs.Commands.{extended_table, command_table, command_of}
+use Rattle.std.specs.Prelude.{Option}
+use Rattle.std.specs.declared.option.Option.TheVariants as o
+use Rattle.commands.specs.Commands.{extended_table, command_table, command_of, extended_command_of}
 use Rattle.commands.specs.declared.Command.{Command}
 use Rattle.commands.specs.declared.Command.TheVariants as k
 use Rattle.commands.specs.declared.CommonCommand.{CommonCommand}
@@ -92,43 +94,46 @@ command_opening b (k.Extended c) = extended_opening b c
 command_opening b (k.I2c c) = i2c_opening b c
 command_opening b (k.Spi c) = spi_opening b c
 command_opening b (k.OneWire c) = one_wire_opening b c
-command_opening b k.Unknown = Unknown
+
+abbrev pub byte_opening : ℕ → Option Command → Opening
+byte_opening b o.None = Unknown
+byte_opening b (o.Some c) = command_opening b c
 
 -- ALL BYTES, between commands and after 1D
 
-openings : values opening_of 256 0 ≡ values (λ (b : ℕ). command_opening b (command_of false b)) 256 0
+openings : values opening_of 256 0 ≡ values (λ (b : ℕ). byte_opening b (command_of b)) 256 0
 unfolding opening_of commands
 openings = refl
 
-extensions : values extension_of 256 0 ≡ values (λ (b : ℕ). command_opening b (command_of true b)) 256 0
+extensions : values extension_of 256 0 ≡ values (λ (b : ℕ). byte_opening b (extended_command_of b)) 256 0
 unfolding extension_of extended_commands
 extensions = refl
 
-pub opening_is : (b : ℕ) → b < 256 → opening_of b ≡ command_opening b (command_of false b)
-opening_is b h = byte_fact opening_of (λ (b : ℕ). command_opening b (command_of false b)) openings b h
+pub opening_is : (b : ℕ) → b < 256 → opening_of b ≡ byte_opening b (command_of b)
+opening_is b h = byte_fact opening_of (λ (b : ℕ). byte_opening b (command_of b)) openings b h
 
-pub extension_is : (b : ℕ) → b < 256 → extension_of b ≡ command_opening b (command_of true b)
-extension_is b h = byte_fact extension_of (λ (b : ℕ). command_opening b (command_of true b)) extensions b h
+pub extension_is : (b : ℕ) → b < 256 → extension_of b ≡ byte_opening b (extended_command_of b)
+extension_is b h = byte_fact extension_of (λ (b : ℕ). byte_opening b (extended_command_of b)) extensions b h
 
--- a command of a byte between commands, and of one after 1D
-abbrev pub is_between : Command → Bool
-is_between (k.Common c) = true
-is_between (k.Extended c) = false
-is_between (k.I2c c) = true
-is_between (k.Spi c) = true
-is_between (k.OneWire c) = true
-is_between k.Unknown = true
+-- a command of a byte between commands, and of one after 1D, or none
+abbrev pub is_between : Option Command → Bool
+is_between o.None = true
+is_between (o.Some (k.Common c)) = true
+is_between (o.Some (k.Extended c)) = false
+is_between (o.Some (k.I2c c)) = true
+is_between (o.Some (k.Spi c)) = true
+is_between (o.Some (k.OneWire c)) = true
 
-abbrev pub is_extended : Command → Bool
-is_extended (k.Common c) = false
-is_extended (k.Extended c) = true
-is_extended (k.I2c c) = false
-is_extended (k.Spi c) = false
-is_extended (k.OneWire c) = false
-is_extended k.Unknown = true
+abbrev pub is_extended : Option Command → Bool
+is_extended o.None = true
+is_extended (o.Some (k.Common c)) = false
+is_extended (o.Some (k.Extended c)) = true
+is_extended (o.Some (k.I2c c)) = false
+is_extended (o.Some (k.Spi c)) = false
+is_extended (o.Some (k.OneWire c)) = false
 
-pub between_is : (b : ℕ) → is_between (command_of false b) ≡ true
-between_is b = found_all is_between k.Unknown b command_table refl refl
+pub between_is : (b : ℕ) → is_between (command_of b) ≡ true
+between_is b = found_all is_between o.None b command_table refl refl
 
-pub extended_is : (b : ℕ) → is_extended (command_of true b) ≡ true
-extended_is b = found_all is_extended k.Unknown b extended_table refl refl
+pub extended_is : (b : ℕ) → is_extended (extended_command_of b) ≡ true
+extended_is b = found_all is_extended o.None b extended_table refl refl

@@ -3,6 +3,7 @@ use Prim.Native.Nat.{ℕ, ◌<◌}
 use mathlib.Core.Path.{◌≡◌, refl, ap, ◌∙◌}
 use mathlib.Core.Bool.{Bool, true, false, cond}
 use mathlib.Core.List.{List, [], ◌∷◌}
+use Rattle.std.specs.Prelude.{is_err}
 use Rattle.registers.specs.Registers.{is_idle}
 use Rattle.registers.specs.Ranges.{InRange}
 use Rattle.registers.specs.declared.State.{State}
@@ -19,7 +20,6 @@ use Rattle.grammar.specs.declared.Scanner.{Scanner}
 use Rattle.grammar.specs.declared.following.Stream.{Stream}
 use Rattle.grammar.proofs.Leads.{agreed}
 use Rattle.bridge.specs.Answering.{Bridge, Given, answer_of}
-use Rattle.bridge.specs.Demands.{is_refused}
 use Rattle.bridge.specs.Streams.{IsEvent, EventCall, after_calls, stream_after, stream_along, StreamFollowed}
 use Rattle.bridge.specs.Views.{context_of}
 use Rattle.bridge.proofs.View.{place_of, view_of}
@@ -59,7 +59,7 @@ taken s (e.Fault f) ss m t h n = record {
   drop = event_drop s (e.Fault f) ss m ∙ idle_place s.wait ∙ ap (λ (g : Scanner). is_between g.place) n.scanner;
 }
 
-called : (b : Bridge) (k : EventCall) (t : Stream) (g : Given) → Went b k.event k.lent g → Seen b.state t → Seen g.answer.bridge.state (cond (is_refused g.answer.outcome) t (stream_after t k.event))
+called : (b : Bridge) (k : EventCall) (t : Stream) (g : Given) → Went b k.event k.lent g → Seen b.state t → Seen g.answer.bridge.state (cond (is_err g.answer.outcome) t (stream_after t k.event))
 called b k t g (refused_for r w) n = n
 called b k t g (was_accepted m) n = taken b.state k.event k.lent.samples k.lent.sampled t k.is_event n
 
@@ -67,7 +67,7 @@ along : (b : Bridge) (t : Stream) (ks : List EventCall) → Seen b.state t → S
 along b t [] n = n
 along b t (k ∷ ks) n =
     let g = answer_of b k.event k.lent in
-    along g.answer.bridge (cond (is_refused g.answer.outcome) t (stream_after t k.event)) ks (called b k t g (went b k.event k.lent) n)
+    along g.answer.bridge (cond (is_err g.answer.outcome) t (stream_after t k.event)) ks (called b k t g (went b k.event k.lent) n)
 
 pub stream_followed : StreamFollowed
 stream_followed b n ks =

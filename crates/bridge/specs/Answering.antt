@@ -1,6 +1,6 @@
 -- What a call of the bridge gives (01, "What goes in and comes out", "Refusal numbers"). The contract of `step` says that it gives
 -- this, and the demands (Demands.antt) are about it.
-use Rattle.std.specs.Prelude.{ℕ, Bool, cond, List, [], length}
+use Rattle.std.specs.Prelude.{ℕ, Bool, cond, List, [], length, Result, Ok, Err}
 use Rattle.wire.specs.Action.{bytes_of}
 use Rattle.wire.specs.Buffer.{overwrite, fits_in}
 use Rattle.registers.specs.Ranges.{state_fits}
@@ -13,8 +13,6 @@ use Rattle.effects.specs.Returning.{codes_in}
 use Rattle.refusals.specs.declared.Refusal.{Refusal}
 use Rattle.refusals.specs.declared.Refusal.TheVariants.{Ranges, Samples, Actions, Replies}
 pub use Rattle.bridge.specs.declared.Bridge.{Bridge}
-pub use Rattle.bridge.specs.declared.Outcome.{Outcome}
-pub use Rattle.bridge.specs.declared.Outcome.TheVariants.{Taken, Refused}
 pub use Rattle.bridge.specs.declared.Stepped.{Stepped}
 
 -- what a call is lent: samples, and a buffer each for actions and replies; each with its mark (01's term), the bytes of it used
@@ -29,10 +27,10 @@ pub record Lent : Type 0 where
 abbrev pub lent : List ℕ → ℕ → List ℕ → ℕ → List ℕ → ℕ → Lent
 lent ss m as' a rs r = record { samples = ss; sampled = m; actions = as'; acted = a; replies = rs; replied = r }
 
--- what a call answers: the bridge, the outcome, the codes returned, and "three counts: samples used, reply bytes, actions"
+-- what a call answers: the bridge, taken or why it was refused, the codes returned, and "three counts: samples used, reply bytes, actions"
 pub record Answered : Type 0 where
   pub bridge : Bridge
-  pub outcome : Outcome
+  pub outcome : Result (Unit {0}) Refusal
   pub codes : List ℕ
   pub samples : ℕ
   pub replies : ℕ
@@ -53,7 +51,7 @@ given x as' rs = record { answer = x; actions = as'; replies = rs }
 
 -- "Each returns what it was given, with zero counts and lent memory untouched"; an event that is refused returns no code
 abbrev pub refusal : Bridge → Refusal → Answered
-refusal b why = record { bridge = b; outcome = Refused why; codes = []; samples = 0; replies = 0; actions = 0 }
+refusal b why = record { bridge = b; outcome = Err why; codes = []; samples = 0; replies = 0; actions = 0 }
 
 abbrev pub refused : Bridge → Lent → Refusal → Given
 refused b l why = given (refusal b why) l.actions l.replies
@@ -63,7 +61,7 @@ abbrev pub effect : Bridge → Event → Lent → Effect
 effect b e l = effect_of b.state e l.samples l.sampled
 
 abbrev pub acceptance : State → List ℕ → ℕ → ℕ → ℕ → Answered
-acceptance s codes samples replies actions = record { bridge = record { state = s }; outcome = Taken; codes = codes; samples = samples; replies = replies; actions = actions }
+acceptance s codes samples replies actions = record { bridge = record { state = s }; outcome = Ok tt; codes = codes; samples = samples; replies = replies; actions = actions }
 
 -- "Replies and actions of an event are written to the unused rest of a lent buffer"
 abbrev pub accepted : Effect → Lent → Given

@@ -5,7 +5,7 @@
 -- whether it is legal is in commands/specs/Commands.antt and Legality.antt. What a waveform uses of the samples, `used`, is in its bus's
 -- definitions: i2c_bus/specs/I2c.antt, spi_bus/specs/Spi.antt, one_wire_bus/specs/OneWire.antt, and lines/specs/Waves.antt for single
 -- lines and ports.
-use Rattle.std.specs.Prelude.{ℕ, ◌+◌, ◌-◌, ◌*◌, ◌<◌, ◌≡◌, Bool, true, false, List, [], ◌∷◌, ◌++◌, ◌↔◌, ◌⊎◌, length, take, drop}
+use Rattle.std.specs.Prelude.{ℕ, ◌+◌, ◌-◌, ◌*◌, ◌<◌, ◌≡◌, Bool, true, false, List, [], ◌∷◌, ◌++◌, ◌↔◌, ◌⊎◌, length, take, drop, Result, Ok, Err, is_err}
 use Rattle.wire.specs.Action.{bytes_of}
 use Rattle.codes.specs.Codes.{rejecting, any_rejecting}
 use Rattle.wire.specs.Sample.{samplings, SameFrom}
@@ -23,11 +23,11 @@ use Rattle.grammar.specs.declared.Verdict.TheVariants.{Wrong}
 use Rattle.refusals.specs.Refusals.{number_of}
 use Rattle.refusals.specs.declared.Refusal.{Refusal}
 use Rattle.refusals.specs.declared.Refusal.TheVariants.{Ranges, Samples, Actions, Replies, Header, Length, Passes, Kind, FaultBody, Size, Factory, Waits}
-use Rattle.bridge.specs.Answering.{Bridge, Outcome, Taken, Refused, Lent, effect, refused, accepted, answer_of}
+use Rattle.bridge.specs.Answering.{Bridge, Lent, effect, refused, accepted, answer_of}
 use Rattle.bridge.specs.Views.{context_of}
-use Rattle.bridge.specs.Judging.{Judged, judgement_of}
+use Rattle.bridge.specs.Judging.{judgement_of}
 
-abbrev pub outcome : Bridge → Event → Lent → Outcome
+abbrev pub outcome : Bridge → Event → Lent → Result (Unit {0}) Refusal
 outcome b e l = (answer_of b e l).answer.outcome
 
 -- DEMAND 1: "Any event, in any state, with any lent samples and buffers, gets a fixed answer". The answer is a total function;
@@ -62,10 +62,10 @@ abbrev pub Lowest : Bridge → Event → Lent → Refusal → Type 0
 Lowest b e l r = Applies b e l r × ((q : Refusal) → number_of q < number_of r → ¬ Applies b e l q)
 
 pub record Demand1 (b : Bridge) (e : Event) (l : Lent) : Type 0 where
-  pub exactly_when : (r : Refusal) → (outcome b e l ≡ Refused r) ↔ Lowest b e l r
-  pub taken_otherwise : (outcome b e l ≡ Taken) ↔ ((r : Refusal) → ¬ Applies b e l r)
+  pub exactly_when : (r : Refusal) → (outcome b e l ≡ Err r) ↔ Lowest b e l r
+  pub taken_otherwise : (outcome b e l ≡ Ok tt) ↔ ((r : Refusal) → ¬ Applies b e l r)
   -- "the state it was given, no counts, and every lent byte unchanged"
-  pub leaves : (r : Refusal) → outcome b e l ≡ Refused r → answer_of b e l ≡ refused b l r
+  pub leaves : (r : Refusal) → outcome b e l ≡ Err r → answer_of b e l ≡ refused b l r
 
 -- DEMAND 2: for every event not refused, all is as the clauses of 01 say
 
@@ -85,30 +85,26 @@ pub record OnlyErrorChanged (b : Bridge) (e : Event) (l : Lent) : Type 0 where
   pub pins : (answer_of b e l).actions ≡ l.actions
 
 pub record Demand2 (b : Bridge) (e : Event) (l : Lent) : Type 0 where
-  pub gives : outcome b e l ≡ Taken → answer_of b e l ≡ accepted (effect b e l) l
-  pub actions_written : outcome b e l ≡ Taken → (answer_of b e l).actions ≡ filled l.actions l.acted (bytes_of (effect b e l).actions)
-  pub replies_written : outcome b e l ≡ Taken → (answer_of b e l).replies ≡ filled l.replies l.replied (sent_by (effect b e l))
+  pub gives : outcome b e l ≡ Ok tt → answer_of b e l ≡ accepted (effect b e l) l
+  pub actions_written : outcome b e l ≡ Ok tt → (answer_of b e l).actions ≡ filled l.actions l.acted (bytes_of (effect b e l).actions)
+  pub replies_written : outcome b e l ≡ Ok tt → (answer_of b e l).replies ≡ filled l.replies l.replied (sent_by (effect b e l))
   -- the counts are of what was written and used: four bytes an action, a byte a reply byte
-  pub actions_counted : outcome b e l ≡ Taken → 4 * (answer_of b e l).answer.actions ≡ length (bytes_of (effect b e l).actions)
-  pub replies_counted : outcome b e l ≡ Taken → (answer_of b e l).answer.replies ≡ length (sent_by (effect b e l))
-  pub samples_counted : outcome b e l ≡ Taken → (answer_of b e l).answer.samples ≡ (effect b e l).used
+  pub actions_counted : outcome b e l ≡ Ok tt → 4 * (answer_of b e l).answer.actions ≡ length (bytes_of (effect b e l).actions)
+  pub replies_counted : outcome b e l ≡ Ok tt → (answer_of b e l).answer.replies ≡ length (sent_by (effect b e l))
+  pub samples_counted : outcome b e l ≡ Ok tt → (answer_of b e l).answer.samples ≡ (effect b e l).used
   -- and the samples used are those taken, by the actions with verb 3 or 7 (`Sized`: an array of the state has its size)
-  pub samples_taken : Sized b.state → outcome b e l ≡ Taken → (answer_of b e l).answer.samples ≡ samplings (effect b e l).actions
+  pub samples_taken : Sized b.state → outcome b e l ≡ Ok tt → (answer_of b e l).answer.samples ≡ samplings (effect b e l).actions
   -- the codes are those returned
-  pub codes_returned : outcome b e l ≡ Taken → (answer_of b e l).answer.codes ≡ codes_of (effect b e l).said
-  pub rejected : outcome b e l ≡ Taken → any_rejecting (answer_of b e l).answer.codes ≡ true → OnlyErrorChanged b e l
+  pub codes_returned : outcome b e l ≡ Ok tt → (answer_of b e l).answer.codes ≡ codes_of (effect b e l).said
+  pub rejected : outcome b e l ≡ Ok tt → any_rejecting (answer_of b e l).answer.codes ≡ true → OnlyErrorChanged b e l
 
 -- THEOREM (proofs/Demand2.antt, `same_samples`): two calls whose samples agree, on the places that the first one uses and from the
 -- marks on, do the same; so no sample is used but those counted
 pub record SameSamples (b : Bridge) (e : Event) (l k : Lent) : Type 0 where
   pub effects : SameFrom (effect b e l).used l.samples l.sampled k.samples k.sampled → effect b e l ≡ effect b e k
-  pub answers : outcome b e l ≡ Taken → outcome b e k ≡ Taken → SameFrom (answer_of b e l).answer.samples l.samples l.sampled k.samples k.sampled → (answer_of b e l).answer ≡ (answer_of b e k).answer
+  pub answers : outcome b e l ≡ Ok tt → outcome b e k ≡ Ok tt → SameFrom (answer_of b e l).answer.samples l.samples l.sampled k.samples k.sampled → (answer_of b e l).answer ≡ (answer_of b e k).answer
 
 -- DEMAND 3: one statement about every list of calls that each hand over one byte, whatever is lent, refused ones included
-
-abbrev pub is_refused : Outcome → Bool
-is_refused Taken = false
-is_refused (Refused r) = true
 
 -- the bridge as the grammar's statement sees it: its calls are the answers of `step`, the bridge handed on as it was returned
 abbrev pub machine : Machine
@@ -118,7 +114,7 @@ machine = record {
   Good = λ b. InRange b.state × (b.state.drop ≡ false);
   Idle = λ b. b.state.wait ≡ v.Nothing;
   context = λ b. context_of b.state;
-  refuses = λ b x l. is_refused (outcome b (e.Byte x) l);
+  refuses = λ b x l. is_err (outcome b (e.Byte x) l);
   codes = λ b x l. (answer_of b (e.Byte x) l).answer.codes;
   next = λ b x l. (answer_of b (e.Byte x) l).answer.bridge;
 }
@@ -142,7 +138,7 @@ codes_told b ks = grammar.told machine (grammar.not_refused machine b ks)
 
 abbrev pub CodeForetold : Type 0
 CodeForetold = (b : Bridge) → BetweenCommands b.state → (ks : List (Call machine)) (k w : ℕ)
-    → (judgement_of b (bytes_taken b ks) ≡ Judged (Wrong k w)) ↔ (grammar.FirstRejected (codes_told b ks) k × grammar.ReturnedAt (codes_told b ks) k w)
+    → (judgement_of b (bytes_taken b ks) ≡ Ok (Wrong k w)) ↔ (grammar.FirstRejected (codes_told b ks) k × grammar.ReturnedAt (codes_told b ks) k w)
 
 -- THEOREM (proofs/Demand3.antt, `context_followed`): after any such list the context is where the grammar leads by the bytes taken
 -- alone, rejected ones among them; so a writer of command streams can count a packet's bytes without a bridge

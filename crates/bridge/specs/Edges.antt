@@ -1,6 +1,6 @@
 -- 01, "Edges to prove together": P1 to P12 in one statement (proofs/Edges.antt, `edges`), from the factory start, by what the calls
 -- themselves answer: P1 to P7 the call for an event, P8 to P12 the judge's.
-use Rattle.std.specs.Prelude.{ℕ, ◌*◌, ◌≡◌, false, List, [], ◌∷◌, take}
+use Rattle.std.specs.Prelude.{ℕ, ◌*◌, ◌≡◌, false, List, [], ◌∷◌, take, Ok}
 use Rattle.wire.specs.Action.{bytes_of, dq}
 use Rattle.lines.specs.Lines.{low, released, sampled, waits}
 use Rattle.packet.specs.Register.{zeros}
@@ -12,7 +12,7 @@ use Rattle.registers.specs.declared.Wait.TheVariants as v
 use Rattle.settings.specs.Images.{page_of, factory_image}
 use Rattle.grammar.specs.declared.Verdict.TheVariants.{Whole, Open, Wrong}
 use Rattle.bridge.specs.Answering.{Bridge, Lent, lent, Given, answer_of}
-use Rattle.bridge.specs.Judging.{Judged, judgement_of}
+use Rattle.bridge.specs.Judging.{judgement_of}
 
 -- "Start is factory, 00 seven times and FF three, IOG count FF, version and serial 0"; "no wait"
 abbrev pub factory_state : State
@@ -62,9 +62,9 @@ pub record Edges : Type 0 where
   pub P6 : replies_to (0x13 ∷ 0xFF ∷ []) 0x14 ≡ 0xDC ∷ []
   -- default reset waits 496, 64, 408 µs
   pub P7 : actions_of (0x03 ∷ []) 0x60 ≡ bytes_of (low dq ∷ waits 496 ∷ released dq ∷ waits 64 ∷ sampled dq ∷ waits 408 ∷ [])
-  pub P8 : judgement_of start [] ≡ Judged Whole
-  pub P9 : judgement_of start (0x02 ∷ 0x40 ∷ 0x04 ∷ 0x42 ∷ 0x09 ∷ 0x44 ∷ 0xAA ∷ 0x01 ∷ []) ≡ Judged Whole
-  pub P9-without-last : judgement_of start (0x02 ∷ 0x40 ∷ 0x04 ∷ 0x42 ∷ 0x09 ∷ 0x44 ∷ 0xAA ∷ []) ≡ Judged Open
-  pub P10 : judgement_of start (0x02 ∷ 0x44 ∷ []) ≡ Judged (Wrong 1 0x40)
-  pub P11 : judgement_of start (0x02 ∷ 0x40 ∷ 0x04 ∷ 0x01 ∷ 0x02 ∷ 0x46 ∷ []) ≡ Judged Whole
-  pub P12 : judgement_of start (0x02 ∷ 0x40 ∷ 0x04 ∷ 0x00 ∷ 0x02 ∷ 0x46 ∷ []) ≡ Judged (Wrong 5 0x40)
+  pub P8 : judgement_of start [] ≡ Ok Whole
+  pub P9 : judgement_of start (0x02 ∷ 0x40 ∷ 0x04 ∷ 0x42 ∷ 0x09 ∷ 0x44 ∷ 0xAA ∷ 0x01 ∷ []) ≡ Ok Whole
+  pub P9-without-last : judgement_of start (0x02 ∷ 0x40 ∷ 0x04 ∷ 0x42 ∷ 0x09 ∷ 0x44 ∷ 0xAA ∷ []) ≡ Ok Open
+  pub P10 : judgement_of start (0x02 ∷ 0x44 ∷ []) ≡ Ok (Wrong 1 0x40)
+  pub P11 : judgement_of start (0x02 ∷ 0x40 ∷ 0x04 ∷ 0x01 ∷ 0x02 ∷ 0x46 ∷ []) ≡ Ok Whole
+  pub P12 : judgement_of start (0x02 ∷ 0x40 ∷ 0x04 ∷ 0x00 ∷ 0x02 ∷ 0x46 ∷ []) ≡ Ok (Wrong 5 0x40)

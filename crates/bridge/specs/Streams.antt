@@ -1,12 +1,12 @@
 -- A command stream with line faults among its bytes: for whoever writes one and counts its bytes, as a script does.
-use Rattle.std.specs.Prelude.{◌<◌, ◌≡◌, cond, List, [], ◌∷◌}
+use Rattle.std.specs.Prelude.{◌<◌, ◌≡◌, cond, List, [], ◌∷◌, is_err}
 use Rattle.registers.specs.Ranges.{BetweenCommands}
 use Rattle.registers.specs.declared.Event.{Event}
 use Rattle.registers.specs.declared.Event.TheVariants as e
 use Rattle.grammar.specs.Following.{undisturbed, after_fault, after_bytes}
 use Rattle.grammar.specs.declared.following.Stream.{Stream}
 use Rattle.bridge.specs.Answering.{Bridge, Lent, answer_of}
-use Rattle.bridge.specs.Demands.{outcome, is_refused}
+use Rattle.bridge.specs.Demands.{outcome}
 use Rattle.bridge.specs.Views.{context_of}
 
 -- calls that each hand over a byte or a fault, whatever is lent, refused ones included
@@ -33,7 +33,7 @@ stream_after t (e.Fault f) = after_fault t
 
 abbrev pub stream_along : Stream → Bridge → List EventCall → Stream
 stream_along t b [] = t
-stream_along t b (k ∷ ks) = stream_along (cond (is_refused (outcome b k.event k.lent)) t (stream_after t k.event)) (after_call b k) ks
+stream_along t b (k ∷ ks) = stream_along (cond (is_err (outcome b k.event k.lent)) t (stream_after t k.event)) (after_call b k) ks
 
 -- THEOREM (proofs/Streams.antt, `stream_followed`): the bridge's context and its drop are where the events lead by themselves
 pub record Followed (b : Bridge) (t : Stream) : Type 0 where

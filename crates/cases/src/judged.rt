@@ -1,10 +1,11 @@
 // A case of the judge: the bytes of the start state (include/bridge.h), and those to judge.
 use crate::text::{say, say_refused};
-use bridge::{Bridge, Judgement};
+use bridge::Bridge;
 use grammar::Verdict;
 use refusals::Refusal;
 use state_bytes::decoding;
 
+// (`judge` has the same; three lines are no reason for `verdicts`, which writes to a buffer, to stand on an output.)
 fn show_verdict(v: Verdict) {
     let mut line = [0u8; verdicts::ROOM];
     let n = verdicts::put_verdict(&mut line, v);
@@ -12,28 +13,26 @@ fn show_verdict(v: Verdict) {
 }
 
 fn show_refused(why: Refusal) {
-    say_refused(refusals::number(why));
+    say_refused(u8::from(why));
     say(b"\n");
 }
 
 fn show_judged(start: Bridge, bytes: &[u8]) {
-    let judgement = start.judge(bytes);
-    match judgement {
-        Judgement::Judged(v) => show_verdict(v),
-        Judgement::Refused(why) => show_refused(why),
+    match start.judge(bytes) {
+        Ok(v) => show_verdict(v),
+        Err(why) => show_refused(why),
     }
 }
 
 // The verdict, or the refusal's number; bytes that are no state are refused as the library refuses them.
 pub(crate) fn show(case: &[u8]) {
-    if case.len() < decoding::SIZE {
+    let Some((start, bytes)) = case.split_at_checked(decoding::SIZE) else {
         say(b"no start\n");
         return;
-    }
-    if !decoding::is_state(&case[..decoding::SIZE]) {
+    };
+    let Some(state) = decoding::decoded(start) else {
         show_refused(Refusal::Ranges);
         return;
-    }
-    let state = decoding::state_of(&case[..decoding::SIZE]);
-    show_judged(Bridge { state }, &case[decoding::SIZE..]);
+    };
+    show_judged(Bridge { state }, bytes);
 }

@@ -7,18 +7,12 @@ mod replayed;
 mod switched;
 mod text;
 
-use input::Input;
-use records::reading::joined;
 use text::say;
 
-fn to_go_on(rt: &HostRuntime) -> bool {
-    input::goes_on(
-        rt,
-        b"usage: cases [FILE]\nAnswers each stored case of a judge, a switch-on or a replay in FILE, or in standard input.\n",
-        b"",
-    )
-}
+const USAGE: &[u8] =
+    b"usage: cases [FILE]\nAnswers each stored case of a judge, a switch-on or a replay in FILE, or in standard input.\n";
 
+// A case by this file's own numbers.
 fn show(kind: u8, case: &[u8]) {
     match kind {
         1 => judged::show(case),
@@ -28,29 +22,27 @@ fn show(kind: u8, case: &[u8]) {
     }
 }
 
-// Every case of the file; one that is cut short is the last.
+// Every case of the file; one that is cut short is the last. (`scripts` and `drive` go over their items in the same
+// way: what they share is a pattern and std's `split_at_checked`.)
 fn show_all(file: &[u8]) {
-    let mut at: usize = 0;
-    while 3 <= file.len() - at {
-        let from = at + 3;
-        let size = joined(file[at + 1], file[at + 2]);
-        if file.len() - from < size {
+    let mut cases = file;
+    while let [kind, low, high, rest @ ..] = cases {
+        let size = usize::from(u16::from_le_bytes([*low, *high]));
+        let Some((case, others)) = rest.split_at_checked(size) else {
             say(b"cut short\n");
             return;
-        }
-        show(file[at], &file[from..from + size]);
-        at = from + size;
+        };
+        show(*kind, case);
+        cases = others;
     }
 }
 
 fn main(rt: HostRuntime) {
-    if !to_go_on(&rt) {
+    if !input::goes_on(&rt, USAGE, b"") {
         return;
     }
-    let mut file = io::large_buffer();
-    let Input::Whole(n) = input::read_shorter(&rt, &mut file, b"cases: more than 65,535 bytes\n")
-    else {
-        return;
-    };
-    show_all(&file[..n]);
+    let mut buf = io::large_buffer();
+    if let Some(file) = input::read_shorter(&rt, &mut buf, b"cases: more than 65,535 bytes\n") {
+        show_all(file);
+    }
 }

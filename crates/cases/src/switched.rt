@@ -1,22 +1,20 @@
 // A case of switch-on: how many bytes the buffer for the actions has, its mark, how many the stored image has, the IOG count, the
 // version and the serial number (four bytes), the stored image and the factory image.
 use crate::text::{say, say_bytes, say_number, say_refused};
+use refusals::Refusal;
 use registers::State;
 use state_bytes::{decoding, encoding};
-use switch_on::{Device, Outcome};
-
-// How many bytes stand before the images.
-const HEAD: usize = 9;
+use switch_on::Device;
 
 // The most bytes of the buffer, and what it holds before.
 const ROOM: usize = 64;
 
 const BEFORE: u8 = 0xA5;
 
-fn show_outcome(o: Outcome) {
-    match o {
-        Outcome::On => say(b"on"),
-        Outcome::Refused(why) => say_refused(refusals::number(why)),
+fn show_outcome(outcome: Result<(), Refusal>) {
+    match outcome {
+        Ok(()) => say(b"on"),
+        Err(why) => say_refused(u8::from(why)),
     }
 }
 
@@ -34,62 +32,44 @@ fn show_switched<'a>(
     mark: usize,
 ) {
     let r = switch_on::switch_on(stored, factory, device, buffer, mark);
-    let o = r.outcome;
-    show_outcome(o);
+    show_outcome(r.outcome);
     say_number(b", actions ", r.actions);
     say_bytes(b", buffer ", buffer);
-    let b = r.bridge;
-    let s = b.state;
-    show_state(s);
+    show_state(r.bridge.state);
     let settings = switch_on::settings(stored, factory, buffer.len(), mark);
     say_bytes(b", settings ", settings);
     say(b"\n");
 }
 
-fn wide(x: u8) -> usize {
-    x as usize
-}
-
-fn device(case: &[u8]) -> Device {
-    Device {
-        cycles: wire::byte_at(case, 3),
-        version: wire::byte_at(case, 4),
-        serial: [
-            wire::byte_at(case, 5),
-            wire::byte_at(case, 6),
-            wire::byte_at(case, 7),
-            wire::byte_at(case, 8),
-        ],
-    }
-}
-
 fn show_images(images: &[u8], stored: usize, device: Device, room: usize, mark: usize) {
-    if images.len() < stored {
+    let Some((stored, factory)) = images.split_at_checked(stored) else {
         say(b"no images\n");
         return;
-    }
-    if ROOM < room {
+    };
+    let mut buffer = [BEFORE; ROOM];
+    let Some(buffer) = buffer.get_mut(..room) else {
         say(b"no room\n");
         return;
-    }
-    let mut buffer = [BEFORE; ROOM];
-    show_switched(
-        &images[..stored],
-        &images[stored..],
-        device,
-        &mut buffer[..room],
-        mark,
-    );
+    };
+    show_switched(stored, factory, device, buffer, mark);
 }
 
 // The outcome, how many actions were written, the whole buffer, the state's bytes and the settings used.
 pub(crate) fn show(case: &[u8]) {
-    if case.len() < HEAD {
+    let [room, mark, stored, cycles, version, a, b, c, d, images @ ..] = case else {
         say(b"no images\n");
         return;
-    }
-    let room = wide(case[0]);
-    let mark = wide(case[1]);
-    let stored = wide(case[2]);
-    show_images(&case[HEAD..], stored, device(case), room, mark);
+    };
+    let device = Device {
+        cycles: *cycles,
+        version: *version,
+        serial: [*a, *b, *c, *d],
+    };
+    show_images(
+        images,
+        usize::from(*stored),
+        device,
+        usize::from(*room),
+        usize::from(*mark),
+    );
 }

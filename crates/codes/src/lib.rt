@@ -4,6 +4,7 @@
 ghost use Rattle.std.specs.Prelude.{◌≡◌};
 ghost use Rattle.codes.specs.Codes.{words_of};
 
+// The codes are numbers and no enum: ERROR holds any byte, and the definitions speak of the byte that is returned, stored and sent.
 pub const NO_ERROR: u8 = 0x00;
 
 pub const NO_ACKNOWLEDGE: u8 = 0x20;
@@ -22,23 +23,20 @@ pub const PARITY: u8 = 0x83;
 
 pub const WRONG_INTERFACE: u8 = 0x84;
 
-// The width of a code's words, padded with blanks.
-pub const WORDS_WIDTH: usize = 20;
-
-// A code in words; all blanks for a number that is no code.
-pub fn words(code: u8) -> [u8; WORDS_WIDTH]
-    ensures { result ≡ words_of code }
+// A code in words; no text for a number that is no code.
+pub fn words(code: u8) -> &'static [u8]
+    ensures { result.now ≡ words_of code }
 {
     match code {
-        NO_ERROR => *b"none                ",
-        NO_ACKNOWLEDGE => *b"no acknowledge      ",
-        NO_CONFIGURATION => *b"no SPI configuration",
-        NO_PRESENCE => *b"no presence         ",
-        UNKNOWN_COMMAND => *b"unknown command     ",
-        FRAME => *b"frame               ",
-        OVERRUN => *b"overrun             ",
-        PARITY => *b"parity              ",
-        WRONG_INTERFACE => *b"wrong interface     ",
-        _ => [b' '; WORDS_WIDTH],
+        NO_ERROR => b"none",
+        NO_ACKNOWLEDGE => b"no acknowledge",
+        NO_CONFIGURATION => b"no SPI configuration",
+        NO_PRESENCE => b"no presence",
+        UNKNOWN_COMMAND => b"unknown command",
+        FRAME => b"frame",
+        OVERRUN => b"overrun",
+        PARITY => b"parity",
+        WRONG_INTERFACE => b"wrong interface",
+        _ => b"",
     }
 }

@@ -1,23 +1,12 @@
 -- Which commands are legal in a state, and the code that rejects each other one (01): no other definition says which code rejects a
--- command. What a rejected command then decides stands in decisions/specs/Rejections.antt.
-use Rattle.std.specs.Prelude.{ℕ, Bool, true, false, not, cond, ◌&&◌}
-use Rattle.codes.specs.Codes.{no_configuration, unknown_command, wrong_interface}
+-- command. What a rejected command then decides stands in decisions/specs/Rejections.antt, what a byte that is no command's in Events.antt.
+use Rattle.std.specs.Prelude.{ℕ, Bool, true, false, not, cond, ◌&&◌, Result, Ok, Err, ⊤}
+use Rattle.codes.specs.Codes.{no_configuration, wrong_interface}
 use Rattle.registers.specs.Registers.{i2c_selected, spi_selected, one_wire_selected}
 use Rattle.commands.specs.Commands.{Command}
 use Rattle.commands.specs.declared.Command.TheVariants as k
 use Rattle.commands.specs.declared.SpiCommand.{SpiCommand}
 use Rattle.commands.specs.declared.SpiCommand.TheVariants as p
-pub use Rattle.commands.specs.declared.Legality.{Legality}
-pub use Rattle.commands.specs.declared.Legality.TheVariants.{Legal, Rejected}
-
--- a command that 01 lists, after 1D or not; "any other byte" is none
-abbrev pub is_listed : Command → Bool
-is_listed (k.Common c) = true
-is_listed (k.Extended c) = true
-is_listed (k.I2c c) = true
-is_listed (k.Spi c) = true
-is_listed (k.OneWire c) = true
-is_listed k.Unknown = false
 
 -- a common command, or one of the interface that is selected
 abbrev pub is_selected : ℕ → Command → Bool
@@ -26,7 +15,6 @@ is_selected flags (k.Extended c) = true
 is_selected flags (k.I2c c) = i2c_selected flags
 is_selected flags (k.Spi c) = spi_selected flags
 is_selected flags (k.OneWire c) = one_wire_selected flags
-is_selected flags k.Unknown = false
 
 -- "41 .. unconfigured, it returns 40"; "44, 46, 4B, 4C (H) unconfigured return 40"
 abbrev pub spi_needs_configuration : SpiCommand → Bool
@@ -48,12 +36,9 @@ needs_configuration (k.Extended c) = false
 needs_configuration (k.I2c c) = false
 needs_configuration (k.Spi c) = spi_needs_configuration c
 needs_configuration (k.OneWire c) = false
-needs_configuration k.Unknown = false
 
--- "any other byte: 80"; "A command that 01 lists for an interface not selected returns the new device code 84" (02, Ask 1);
--- unconfigured, 40
-abbrev pub legality_of : ℕ → Bool → Command → Legality
+-- of a command; "A command that 01 lists for an interface not selected returns the new device code 84" (02, Ask 1); unconfigured, 40
+abbrev pub legality_of : ℕ → Bool → Command → Result ⊤ ℕ
 legality_of flags configured c =
-    cond (not (is_listed c)) (Rejected unknown_command)
-    (cond (not (is_selected flags c)) (Rejected wrong_interface)
-    (cond (needs_configuration c && not configured) (Rejected no_configuration) Legal))
+    cond (not (is_selected flags c)) (Err wrong_interface)
+    (cond (needs_configuration c && not configured) (Err no_configuration) (Ok tt))

@@ -6,7 +6,7 @@ pub mod decoding;
 
 use registers::{Bit, PortRegister};
 
-// A command of any section of 01, or what is none.
+// A command of any section of 01.
 #[derive(Clone, Copy)]
 pub enum Command {
     Common(CommonCommand),
@@ -14,14 +14,6 @@ pub enum Command {
     I2c(I2cCommand),
     Spi(SpiCommand),
     OneWire(OneWireCommand),
-    Unknown,
-}
-
-// Whether a command is legal, or the code that rejects it.
-#[derive(Clone, Copy)]
-pub enum Legality {
-    Legal,
-    Rejected(u8),
 }
 
 // The common commands by 001's names.

@@ -19,13 +19,12 @@ use Rattle.registers.specs.declared.Wait.TheVariants as v
 use Rattle.registers.specs.declared.Event.{Event}
 use Rattle.registers.specs.declared.Event.TheVariants as e
 use Rattle.registers.proofs.InRange.{idle_is, wait_as}
-use Rattle.commands.specs.Commands.{command_of}
+use Rattle.commands.specs.Commands.{command_of, extended_command_of}
 use Rattle.commands.specs.declared.Command.{Command}
 use Rattle.registers.specs.declared.Bit.TheVariants.{Three, Four}
 use Rattle.decisions.specs.Decisions.{Decision, dropped}
 use Rattle.commands.specs.Legality.{spi_needs_configuration, legality_of}
-use Rattle.commands.specs.declared.Legality.{Legality}
-use Rattle.commands.specs.declared.Legality.TheVariants.{Legal, Rejected}
+use Rattle.std.specs.Prelude.{Option, Some, None, Result, Ok, Err, ⊤}
 use Rattle.decisions.specs.Rejections.{reads_configuration}
 use Rattle.decisions.specs.Common.{common_clause}
 use Rattle.decisions.specs.Extended.{extended_clause}
@@ -35,7 +34,7 @@ use Rattle.decisions.specs.OneWire.{one_wire_clause}
 use Rattle.decisions.specs.Changes.{changed}
 use Rattle.decisions.specs.Operands.{operand_clause, loaded_clause}
 use Rattle.decisions.specs.Effects.{effect_from}
-use Rattle.decisions.specs.Events.{clause_of, command_decided, byte_decision, decision_of, drop_after, drop_marked, effect_of}
+use Rattle.decisions.specs.Events.{clause_of, command_decided, command_decision, byte_decision, decision_of, drop_after, drop_marked, effect_of}
 use Rattle.decisions.specs.Promises.{Keeps, DropsAfter}
 use Rattle.commands.specs.declared.Command.TheVariants as k
 use Rattle.commands.specs.declared.CommonCommand.{CommonCommand}
@@ -131,11 +130,14 @@ module _ (s : State) (n : InRange s) where
   clause_fits f (k.I2c c) l = i2c_fits l.selected c
   clause_fits f (k.Spi c) l = spi_fits l.selected c l.configured
   clause_fits f (k.OneWire c) l = one_wire_fits l.selected c
-  clause_fits f k.Unknown l = tt
 
-  decided_fits : Free s.wait → (c : Command) (l : Legality) → legality_of s.page.flags s.page.configured c ≡ l → Fit (command_decided s c l)
-  decided_fits f c Legal h = clause_fits f c (legal_here s.page.flags s.page.configured c h)
-  decided_fits f c (Rejected code) h = either Fit (eqb code 0x40 && reads_configuration c) _ _ tt tt
+  decided_fits : Free s.wait → (c : Option Command) → Fit (command_decision s c)
+  decided_fits f None = tt
+  decided_fits f (Some c) = go (legality_of s.page.flags s.page.configured c) refl
+    where
+      go : (l : Result ⊤ ℕ) → legality_of s.page.flags s.page.configured c ≡ l → Fit (command_decided s c l)
+      go (Ok u) h = clause_fits f c (legal_here s.page.flags s.page.configured c h)
+      go (Err code) h = either Fit (eqb code 0x40 && reads_configuration c) _ _ tt tt
 
   operand_fits_lem : (a : Operand) (b : ℕ) → Fit (operand_clause s.page a b)
   operand_fits_lem (o.ToPort a) b = protected_fits s.page a b q
@@ -160,9 +162,9 @@ module _ (s : State) (n : InRange s) where
       go false z = l (eqb-false left 1 z)
 
   byte_fits : (a : Wait) (b : ℕ) → s.wait ≡ a → Fit (byte_decision s a b)
-  byte_fits v.Nothing b z = decided_fits (rw z (λ f c n. tt)) (command_of false b) _ refl
+  byte_fits v.Nothing b z = decided_fits (rw z (λ f c n. tt)) (command_of b)
   byte_fits (v.One a) b z = operand_fits_lem a b
-  byte_fits v.Extended b z = decided_fits (rw z (λ f c n. tt)) (command_of true b) _ refl
+  byte_fits v.Extended b z = decided_fits (rw z (λ f c n. tt)) (extended_command_of b)
   byte_fits (v.Packet left exchange) b z =
       let t = wait_as s (v.Packet left exchange) n z in
       last_or_not left _ _ (loaded_fits _ b exchange) (λ ne. record { spi_selected = t.spi_selected; spi_configured = t.spi_configured; one_or_more = below_one left t.one_or_more ne; packet_or_less = omega (arith, t.packet_or_less) })

@@ -4,6 +4,7 @@ use Prim.Native.Nat.{ℕ}
 use mathlib.Core.Path.{◌≡◌, refl}
 use mathlib.Core.Bool.{Bool, true, false, ◌&&◌, ◌||◌}
 use lib.Dec.{eqb}
+use Rattle.codes.specs.Codes.{unknown_command}
 use Rattle.codes.proofs.Lookup.{either, found_all}
 use Rattle.registers.specs.declared.State.{State}
 use Rattle.registers.specs.declared.PortRegister.{PortRegister}
@@ -16,17 +17,15 @@ use Rattle.registers.specs.declared.Fault.TheVariants as f
 use Rattle.registers.specs.declared.Event.{Event}
 use Rattle.registers.specs.declared.Event.TheVariants as e
 use Rattle.signals.specs.Samples.{steady}
-use Rattle.commands.specs.Commands.{extended_table, command_table, command_of}
+use Rattle.commands.specs.Commands.{extended_table, command_table, command_of, extended_command_of}
 use Rattle.commands.specs.declared.Command.{Command}
 use Rattle.decisions.specs.Decisions.{Change, Decision, ReturnsAndSends, returns, sends}
 use Rattle.commands.specs.Legality.{legality_of}
-use Rattle.commands.specs.declared.Legality.{Legality}
-use Rattle.commands.specs.declared.Legality.TheVariants.{Legal, Rejected}
+use Rattle.std.specs.Prelude.{Option, Some, None, Result, Ok, Err, ⊤}
 use Rattle.decisions.specs.Rejections.{reads_configuration}
 use Rattle.decisions.specs.Operands.{operand_clause, loaded_clause}
-use Rattle.decisions.specs.Events.{clause_of, command_decided, byte_decision, decision_of}
+use Rattle.decisions.specs.Events.{clause_of, command_decided, command_decision, byte_decision, decision_of}
 use Rattle.decisions.specs.declared.Change.TheVariants as c
-use Rattle.commands.specs.declared.Command.TheVariants as k
 use Rattle.decisions.proofs.Answers.{accepting, short}
 
 -- the state stays
@@ -57,13 +56,26 @@ pub data Sorted (d : Decision) : Type 0 where
   coded_and_sent : (code : ℕ) → d ≡ sends (ReturnsAndSends code) → Sorted d
 
 module _ (s : State) where
-  clause_proper : (extended : Bool) (b : ℕ) → proper (clause_of s (command_of extended b)) ≡ true
-  clause_proper true b = found_all (λ (x : Command). proper (clause_of s x)) k.Unknown b extended_table refl refl
-  clause_proper false b = found_all (λ (x : Command). proper (clause_of s x)) k.Unknown b command_table refl refl
+  clause_properly : Option Command → Bool
+  clause_properly None = true
+  clause_properly (Some x) = proper (clause_of s x)
 
-  decided_sorted : (extended : Bool) (b : ℕ) (l : Legality) → Sorted (command_decided s (command_of extended b) l)
-  decided_sorted extended b Legal = is_proper (clause_proper extended b)
-  decided_sorted extended b (Rejected k) = either Sorted (eqb k 0x40 && reads_configuration (command_of extended b)) _ _ (coded_and_sent k refl) (coded k refl)
+  clause_proper : (b : ℕ) → clause_properly (command_of b) ≡ true
+  unfolding clause_properly
+  clause_proper b = found_all clause_properly None b command_table refl refl
+
+  extended_proper : (b : ℕ) → clause_properly (extended_command_of b) ≡ true
+  unfolding clause_properly
+  extended_proper b = found_all clause_properly None b extended_table refl refl
+
+  decided_sorted : (x : Option Command) → clause_properly x ≡ true → Sorted (command_decision s x)
+  unfolding clause_properly
+  decided_sorted None p = coded unknown_command refl
+  decided_sorted (Some x) p = go (legality_of s.page.flags s.page.configured x)
+    where
+      go : (l : Result ⊤ ℕ) → Sorted (command_decided s x l)
+      go (Ok u) = is_proper p
+      go (Err w) = either Sorted (eqb w 0x40 && reads_configuration x) _ _ (coded_and_sent w refl) (coded w refl)
 
   port_sorted : (a : PortRegister) (b : ℕ) → Sorted (operand_clause s.page (o.ToPort a) b)
   port_sorted r.Ddrb b = is_proper refl
@@ -88,9 +100,9 @@ module _ (s : State) where
   loaded_sorted at b false = is_proper refl
 
   pub byte_sorted : (a : Wait) (b : ℕ) → Sorted (byte_decision s a b)
-  byte_sorted v.Nothing b = decided_sorted false b (legality_of s.page.flags s.page.configured (command_of false b))
+  byte_sorted v.Nothing b = decided_sorted (command_of b) (clause_proper b)
   byte_sorted (v.One a) b = operand_sorted a b
-  byte_sorted v.Extended b = decided_sorted true b (legality_of s.page.flags s.page.configured (command_of true b))
+  byte_sorted v.Extended b = decided_sorted (extended_command_of b) (extended_proper b)
   byte_sorted (v.Packet left exchange) b = either Sorted (eqb left 1) _ _ (loaded_sorted _ b exchange) (is_proper refl)
   byte_sorted (v.Timings left) b = either Sorted (eqb left 1) _ _ (is_proper refl) (is_proper refl)
 

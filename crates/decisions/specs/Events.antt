@@ -1,19 +1,18 @@
 -- What each event decides and does (01, from "What goes in and comes out" to "1-Wire"): a byte by what is waited for, or a line fault.
 -- The clauses of the commands are in Common, Extended, I2c, Spi and OneWire, those of other bytes in Operands, that of a rejected command
 -- in Rejections, and what a change means is in Changes. Which command a byte is and whether it is legal is in commands/specs/.
-use Rattle.std.specs.Prelude.{ℕ, Bool, true, false, cond, List}
+use Rattle.std.specs.Prelude.{ℕ, Bool, true, false, cond, List, Option, Some, None, Result, Ok, Err, ⊤}
+use Rattle.codes.specs.Codes.{unknown_command}
 use Rattle.registers.specs.Registers.{bits_in, with_drop, is_idle, fault_code}
 use Rattle.registers.specs.declared.State.{State}
 use Rattle.registers.specs.declared.Wait.{Wait}
 use Rattle.registers.specs.declared.Wait.TheVariants as v
 use Rattle.registers.specs.declared.Event.{Event}
 use Rattle.registers.specs.declared.Event.TheVariants as e
-use Rattle.decisions.specs.Decisions.{Decision, Silent, returns, sends, dropped}
-use Rattle.commands.specs.Commands.{command_of}
+use Rattle.decisions.specs.Decisions.{Decision, returns, dropped}
+use Rattle.commands.specs.Commands.{command_of, extended_command_of}
 use Rattle.commands.specs.declared.Command.{Command}
 use Rattle.commands.specs.Legality.{legality_of}
-use Rattle.commands.specs.declared.Legality.{Legality}
-use Rattle.commands.specs.declared.Legality.TheVariants.{Legal, Rejected}
 use Rattle.decisions.specs.Rejections.{rejected_clause}
 use Rattle.decisions.specs.Common.{common_clause}
 use Rattle.decisions.specs.Extended.{extended_clause}
@@ -24,36 +23,29 @@ use Rattle.decisions.specs.Operands.{operand_clause, packet_clause, timings_clau
 use Rattle.decisions.specs.Effects.{Effect, carried_out}
 use Rattle.commands.specs.declared.Command.TheVariants as k
 
--- A COMMAND where it is legal; what is no command never is
+-- A COMMAND where it is legal
 abbrev pub clause_of : State → Command → Decision
 clause_of s (k.Common c) = common_clause s c
 clause_of s (k.Extended c) = extended_clause s c
 clause_of s (k.I2c c) = i2c_clause c
 clause_of s (k.Spi c) = spi_clause s.page.config s.page.size c
 clause_of s (k.OneWire c) = one_wire_clause c
-clause_of s k.Unknown = sends Silent
 
 -- legal or not
-abbrev pub command_decided : State → Command → Legality → Decision
-command_decided s c Legal = clause_of s c
-command_decided s c (Rejected code) = rejected_clause c code
+abbrev pub command_decided : State → Command → Result ⊤ ℕ → Decision
+command_decided s c (Ok legal) = clause_of s c
+command_decided s c (Err code) = rejected_clause c code
 
-abbrev pub command_decision : State → Command → Decision
-command_decision s c = command_decided s c (legality_of s.page.flags s.page.configured c)
-
--- whether the byte after 1D is waited for; for the contract of the function that asks it
-abbrev pub waits_extended : Wait → Bool
-waits_extended v.Nothing = false
-waits_extended (v.One a) = false
-waits_extended v.Extended = true
-waits_extended (v.Packet left exchange) = false
-waits_extended (v.Timings left) = false
+-- a byte's command, if it has one; "any other byte: 80"
+abbrev pub command_decision : State → Option Command → Decision
+command_decision s None = returns unknown_command
+command_decision s (Some c) = command_decided s c (legality_of s.page.flags s.page.configured c)
 
 -- A BYTE, by what is waited for; "1D returns 00; the next byte is extended", and "after 1D a bad byte leaves the wait (H)"
 abbrev pub byte_decision : State → Wait → ℕ → Decision
-byte_decision s v.Nothing x = command_decision s (command_of false x)
+byte_decision s v.Nothing x = command_decision s (command_of x)
 byte_decision s (v.One a) x = operand_clause s.page a x
-byte_decision s v.Extended x = command_decision s (command_of true x)
+byte_decision s v.Extended x = command_decision s (extended_command_of x)
 byte_decision s (v.Packet left exchange) x = packet_clause (bits_in s.page) left exchange x
 byte_decision s (v.Timings left) x = timings_clause left x
 

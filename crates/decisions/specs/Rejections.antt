@@ -26,7 +26,6 @@ reads_configuration (k.Extended c) = false
 reads_configuration (k.I2c c) = false
 reads_configuration (k.Spi c) = spi_reads_configuration c
 reads_configuration (k.OneWire c) = false
-reads_configuration k.Unknown = false
 
 abbrev pub rejected_clause : Command → ℕ → Decision
 rejected_clause c code = cond (eqb code 0x40 && reads_configuration c) (sends (ReturnsAndSends code)) (sends (Returns code))

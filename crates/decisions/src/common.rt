@@ -2,7 +2,7 @@
 ghost use Rattle.std.specs.Prelude.{◌≡◌, ◌≤◌, ◌<◌};
 ghost use Rattle.decisions.specs.Common.{selects, flagged, common_clause};
 
-use crate::kinds::{awaiting, deciding, sending};
+use crate::kinds::{awaiting, sending};
 use crate::{Answer, Change, Decision};
 use commands::CommonCommand;
 use registers::bits::with_bit;
@@ -16,7 +16,11 @@ fn select(kept: u8, flag: u8, wave: Waveform) -> Decision
     ensures { result ≡ selects kept flag wave }
 {
     let f = kept + flag;
-    deciding(Change::Select(f), wave, Answer::Returns(codes::NO_ERROR))
+    Decision {
+        change: Change::Select(f),
+        wave,
+        answer: Answer::Returns(codes::NO_ERROR),
+    }
 }
 
 // 07 to 0A: a flag set or cleared, 00 returned.
@@ -24,11 +28,11 @@ fn set_flag(flags: u8, bit: Bit, on: bool) -> Decision
     ensures { result ≡ flagged flags bit on }
 {
     let f = with_bit(bit, on, flags);
-    deciding(
-        Change::Flags(f),
-        Waveform::Still,
-        Answer::Returns(codes::NO_ERROR),
-    )
+    Decision {
+        change: Change::Flags(f),
+        wave: Waveform::Still,
+        answer: Answer::Returns(codes::NO_ERROR),
+    }
 }
 
 // 1C: PD4 latched, the IOG cycles waited, PD3 latched.
@@ -45,7 +49,11 @@ fn set_iog(s: State) -> Decision
         wait,
         last,
     };
-    deciding(Change::Latch(last), wave, Answer::Returns(codes::NO_ERROR))
+    Decision {
+        change: Change::Latch(last),
+        wave,
+        answer: Answer::Returns(codes::NO_ERROR),
+    }
 }
 
 // What a common command decides.
@@ -54,24 +62,24 @@ pub(crate) fn clause(s: State, c: CommonCommand) -> Decision
 {
     let kept = kept_flags(s.page.flags);
     match c {
-        CommonCommand::ResetDevice => deciding(
-            Change::Reset,
-            Waveform::Reinit,
-            Answer::Returns(codes::NO_ERROR),
-        ),
+        CommonCommand::ResetDevice => Decision {
+            change: Change::Reset,
+            wave: Waveform::Reinit,
+            answer: Answer::Returns(codes::NO_ERROR),
+        },
         CommonCommand::SelectI2c => select(kept, 1, Waveform::ReinitHigh(wire::LINE_CS)),
         CommonCommand::SelectSpi => select(kept, 2, Waveform::ReinitHigh(wire::LINE_SS)),
         CommonCommand::SelectOneWire => select(kept, 4, Waveform::Reinit),
-        CommonCommand::ReadError => deciding(
-            Change::ClearError,
-            Waveform::Still,
-            Answer::Sends(s.page.error),
-        ),
-        CommonCommand::SaveToEprom => deciding(
-            Change::Save,
-            Waveform::Still,
-            Answer::Returns(codes::NO_ERROR),
-        ),
+        CommonCommand::ReadError => Decision {
+            change: Change::ClearError,
+            wave: Waveform::Still,
+            answer: Answer::Sends(s.page.error),
+        },
+        CommonCommand::SaveToEprom => Decision {
+            change: Change::Save,
+            wave: Waveform::Still,
+            answer: Answer::Returns(codes::NO_ERROR),
+        },
         CommonCommand::ReadFromEprom => sending(Answer::SendsEprom),
         CommonCommand::SetReports(on) => set_flag(s.page.flags, Bit::Three, on),
         CommonCommand::SetAutoload(on) => set_flag(s.page.flags, Bit::Four, on),
@@ -80,11 +88,11 @@ pub(crate) fn clause(s: State, c: CommonCommand) -> Decision
             let page = s.page;
             sending(Answer::Sends(registers::ports::port_register(page, r)))
         }
-        CommonCommand::ReadPins(line) => deciding(
-            Change::Nothing,
-            Waveform::SamplePort(line),
-            Answer::SendsSample,
-        ),
+        CommonCommand::ReadPins(line) => Decision {
+            change: Change::Nothing,
+            wave: Waveform::SamplePort(line),
+            answer: Answer::SendsSample,
+        },
         CommonCommand::ReadFlags => sending(Answer::Sends(s.page.flags)),
         CommonCommand::ReadVersion => sending(Answer::Sends(s.shared.version)),
         CommonCommand::SetIog => set_iog(s),

@@ -2,16 +2,15 @@
 ghost use Rattle.std.specs.Prelude.{◌≡◌, cond, ◌<◌};
 ghost use Rattle.packet.specs.Packet.{width};
 ghost use Rattle.registers.specs.Ranges.{InRange};
-ghost use Rattle.commands.specs.Commands.{command_of};
 ghost use Rattle.decisions.specs.Decisions.{dropped};
-ghost use Rattle.decisions.specs.Events.{clause_of, command_decision, waits_extended, byte_decision};
+ghost use Rattle.decisions.specs.Events.{clause_of, command_decision, byte_decision};
 
-use crate::kinds::{dropping, returning, sending};
+use crate::kinds::{dropping, returning};
 use crate::rejections::rejected;
-use crate::{Answer, Decision, common, extended, i2c, one_wire, operands, packets, spi, timings};
+use crate::{Decision, common, extended, i2c, one_wire, operands, packets, spi, timings};
+use commands::Command;
 use commands::checks::legality_of;
-use commands::decoding::command_of;
-use commands::{Command, Legality};
+use commands::decoding::{command_of, extended_command_of};
 use registers::{State, Wait};
 
 // What a legal command decides. The caller shows that the size register is in range.
@@ -25,40 +24,20 @@ fn clause_of(s: State, c: Command) -> Decision
         Command::I2c(k) => i2c::clause(k),
         Command::Spi(k) => spi::clause(s.page.config, s.page.size, k),
         Command::OneWire(k) => one_wire::clause(k),
-        Command::Unknown => sending(Answer::Silent),
     }
 }
 
-// A byte between commands or after 1D.
-fn command(s: State, extended: bool, b: u8) -> Decision
+// A byte between commands or after 1D, by the command that it is.
+fn command(s: State, c: Option<Command>) -> Decision
     requires { s.page.size < width }
-    ensures { result ≡ command_decision s (command_of extended b) }
+    ensures { result ≡ command_decision s c }
 {
-    let c = command_of(extended, b);
-    // asked before legality, which rejects it on every page, since three codes at one return cost each legal command instructions
-    if let Command::Unknown = c {
+    let Some(c) = c else {
         return returning(codes::UNKNOWN_COMMAND);
-    }
-    let l = legality_of(s.page.flags, s.page.configured, c);
-    if let Legality::Rejected(code) = l {
-        return rejected(c, code);
-    }
-    clause_of(s, c)
-}
-
-// Whether the byte after 1D is waited for.
-fn waits_extended(w: Wait) -> bool
-    ensures { result ≡ waits_extended w }
-{
-    match w {
-        Wait::Nothing => false,
-        Wait::One(_) => false,
-        Wait::Extended => true,
-        Wait::Packet {
-            left: _,
-            exchange: _,
-        } => false,
-        Wait::Timings { left: _ } => false,
+    };
+    match legality_of(s.page.flags, s.page.configured, c) {
+        Ok(()) => clause_of(s, c),
+        Err(code) => rejected(c, code),
     }
 }
 
@@ -72,7 +51,18 @@ pub(crate) fn byte(s: State, x: u8) -> Decision
     }
     let w = s.wait;
     match w {
-        Wait::Nothing | Wait::Extended => command(s, waits_extended(w), x),
+        // one call for both, since one for each costs packets 4 instructions in a hundred
+        Wait::Nothing | Wait::Extended => {
+            let after_1d = matches!(w, Wait::Extended);
+            command(
+                s,
+                if after_1d {
+                    extended_command_of(x)
+                } else {
+                    command_of(x)
+                },
+            )
+        }
         Wait::One(o) => operands::clause(s, o, x),
         Wait::Packet { left, exchange } => packets::packet_byte(s.page.size, left, exchange, x),
         Wait::Timings { left } => timings::timing_byte(left, x),

@@ -2,7 +2,7 @@
 ghost use Rattle.std.specs.Prelude.{◌≡◌};
 ghost use Rattle.decisions.specs.I2c.{i2c_clause};
 
-use crate::kinds::{awaiting, deciding, performing};
+use crate::kinds::{awaiting, performing};
 use crate::{Answer, Change, Decision};
 use commands::I2cCommand;
 use registers::{Operand, Wait};
@@ -16,19 +16,19 @@ pub(crate) fn clause(c: I2cCommand) -> Decision
         I2cCommand::SendStart => performing(Waveform::Start),
         I2cCommand::SendStop => performing(Waveform::Stop),
         I2cCommand::SendByte => awaiting(Wait::One(Operand::ToI2c)),
-        I2cCommand::ReadByte(answer) => deciding(
-            Change::Nothing,
-            Waveform::ReadI2c(answer),
-            Answer::SendsSample,
-        ),
+        I2cCommand::ReadByte(answer) => Decision {
+            change: Change::Nothing,
+            wave: Waveform::ReadI2c(answer),
+            answer: Answer::SendsSample,
+        },
         I2cCommand::DriveCs(verb) => performing(Waveform::Line {
             verb,
             line: wire::LINE_CS,
         }),
-        I2cCommand::ReadCs => deciding(
-            Change::Nothing,
-            Waveform::SampleLine(wire::LINE_CS),
-            Answer::SendsLevel,
-        ),
+        I2cCommand::ReadCs => Decision {
+            change: Change::Nothing,
+            wave: Waveform::SampleLine(wire::LINE_CS),
+            answer: Answer::SendsLevel,
+        },
     }
 }

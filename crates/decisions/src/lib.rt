@@ -75,7 +75,7 @@ pub fn decision_of(s: State, e: Event) -> Decision
 {
     match e {
         Event::Byte(x) => events::byte(s, x),
-        Event::Fault(f) => kinds::returning(registers::fault_code(f)),
+        Event::Fault(f) => kinds::returning(u8::from(f)),
     }
 }
 

@@ -2,7 +2,7 @@
 ghost use Rattle.std.specs.Prelude.{◌≡◌};
 ghost use Rattle.decisions.specs.OneWire.{one_wire_clause};
 
-use crate::kinds::{awaiting, deciding, performing, sending};
+use crate::kinds::{awaiting, performing, sending};
 use crate::{Answer, Change, Decision};
 use commands::OneWireCommand;
 use registers::{Operand, Wait};
@@ -13,25 +13,25 @@ pub(crate) fn clause(c: OneWireCommand) -> Decision
     ensures { result ≡ one_wire_clause c }
 {
     match c {
-        OneWireCommand::SendReset => deciding(
-            Change::Nothing,
-            Waveform::ResetOneWire,
-            Answer::Checked(codes::NO_PRESENCE),
-        ),
+        OneWireCommand::SendReset => Decision {
+            change: Change::Nothing,
+            wave: Waveform::ResetOneWire,
+            answer: Answer::Checked(codes::NO_PRESENCE),
+        },
         // The bit stands before the byte because that compiles best.
         OneWireCommand::SendBit => awaiting(Wait::One(Operand::ToOneWireBit)),
         OneWireCommand::SendByte => awaiting(Wait::One(Operand::ToOneWire)),
         OneWireCommand::SendStrong => awaiting(Wait::One(Operand::ToOneWireStrong)),
-        OneWireCommand::ReadByte => deciding(
-            Change::Nothing,
-            Waveform::ReadOneWire,
-            Answer::SendsSample,
-        ),
-        OneWireCommand::ReadBit => deciding(
-            Change::Nothing,
-            Waveform::ReadOneWireBit,
-            Answer::SendsLevel,
-        ),
+        OneWireCommand::ReadByte => Decision {
+            change: Change::Nothing,
+            wave: Waveform::ReadOneWire,
+            answer: Answer::SendsSample,
+        },
+        OneWireCommand::ReadBit => Decision {
+            change: Change::Nothing,
+            wave: Waveform::ReadOneWireBit,
+            answer: Answer::SendsLevel,
+        },
         OneWireCommand::LoadTimings => awaiting(Wait::Timings {
             left: registers::TIMINGS as u8,
         }),

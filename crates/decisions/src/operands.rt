@@ -2,7 +2,7 @@
 ghost use Rattle.std.specs.Prelude.{◌≡◌};
 ghost use Rattle.decisions.specs.Operands.{port_clause, operand_clause};
 
-use crate::kinds::{deciding, ending, storing};
+use crate::kinds::{ending, storing};
 use crate::{Answer, Change, Decision};
 use registers::{Operand, PortRegister, State};
 use signals::Waveform;
@@ -29,21 +29,25 @@ pub(crate) fn clause(s: State, o: Operand, x: u8) -> Decision
 {
     match o {
         Operand::ToPort(r) => write_port(s, r, x),
-        Operand::ToCycles => deciding(Change::Cycles(x), Waveform::Still, Answer::Silent),
+        Operand::ToCycles => Decision {
+            change: Change::Cycles(x),
+            wave: Waveform::Still,
+            answer: Answer::Silent,
+        },
         Operand::ToI2c => ending(
             Waveform::WriteI2c(x),
             Answer::Checked(codes::NO_ACKNOWLEDGE),
         ),
-        Operand::ToConfig => deciding(
-            Change::Config(x % 8),
-            Waveform::Still,
-            Answer::Returns(codes::NO_ERROR),
-        ),
-        Operand::ToSize => deciding(
-            Change::Size(packet::size_register(x)),
-            Waveform::Still,
-            Answer::Returns(codes::NO_ERROR),
-        ),
+        Operand::ToConfig => Decision {
+            change: Change::Config(x % 8),
+            wave: Waveform::Still,
+            answer: Answer::Returns(codes::NO_ERROR),
+        },
+        Operand::ToSize => Decision {
+            change: Change::Size(packet::size_register(x)),
+            wave: Waveform::Still,
+            answer: Answer::Returns(codes::NO_ERROR),
+        },
         Operand::ToOneWire => ending(Waveform::WriteOneWire(x), Answer::Returns(codes::NO_ERROR)),
         Operand::ToOneWireBit => ending(
             Waveform::WriteOneWireBit(x),

@@ -4,7 +4,6 @@ ghost use Rattle.packet.specs.Packet.{packet_bytes};
 ghost use Rattle.registers.specs.Registers.{bits_of};
 ghost use Rattle.decisions.specs.Operands.{packet_clause};
 
-use crate::kinds::deciding;
 use crate::{Answer, Change, Decision};
 use registers::Wait;
 use registers::parts::packet_bytes;
@@ -19,17 +18,25 @@ pub(crate) fn packet_byte(size: u8, left: u8, exchange: bool, x: u8) -> Decision
     if left == 1 {
         let change = Change::LoadPacket { at, byte: x };
         if exchange {
-            return deciding(change, Waveform::Exchange, Answer::ReturnsTwice);
+            return Decision {
+                change,
+                wave: Waveform::Exchange,
+                answer: Answer::ReturnsTwice,
+            };
         }
-        return deciding(change, Waveform::Still, Answer::Returns(codes::NO_ERROR));
+        return Decision {
+            change,
+            wave: Waveform::Still,
+            answer: Answer::Returns(codes::NO_ERROR),
+        };
     }
     let wait = Wait::Packet {
         left: left - 1,
         exchange,
     };
-    deciding(
-        Change::Hold { wait, at, byte: x },
-        Waveform::Still,
-        Answer::Silent,
-    )
+    Decision {
+        change: Change::Hold { wait, at, byte: x },
+        wave: Waveform::Still,
+        answer: Answer::Silent,
+    }
 }

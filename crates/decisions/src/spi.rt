@@ -3,7 +3,7 @@ ghost use Rattle.std.specs.Prelude.{◌≡◌, ◌<◌};
 ghost use Rattle.packet.specs.Packet.{width};
 ghost use Rattle.decisions.specs.Spi.{spi_clause};
 
-use crate::kinds::{awaiting, deciding, performing, sending};
+use crate::kinds::{awaiting, performing, sending};
 use crate::{Answer, Change, Decision};
 use commands::SpiCommand;
 use registers::parts::{bits_of, packet_bytes};
@@ -30,16 +30,16 @@ pub(crate) fn clause(config: u8, size: u8, c: SpiCommand) -> Decision
             verb,
             line: wire::LINE_SS,
         }),
-        SpiCommand::ReadSs => deciding(
-            Change::Nothing,
-            Waveform::SampleLine(wire::LINE_SS),
-            Answer::SendsLevel,
-        ),
+        SpiCommand::ReadSs => Decision {
+            change: Change::Nothing,
+            wave: Waveform::SampleLine(wire::LINE_SS),
+            answer: Answer::SendsLevel,
+        },
         SpiCommand::ReadLow => sending(Answer::SendsLow),
-        SpiCommand::ExchangeAndRead => deciding(
-            Change::Nothing,
-            Waveform::Exchange,
-            Answer::ReturnsThenLow,
-        ),
+        SpiCommand::ExchangeAndRead => Decision {
+            change: Change::Nothing,
+            wave: Waveform::Exchange,
+            answer: Answer::ReturnsThenLow,
+        },
     }
 }

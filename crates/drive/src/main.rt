@@ -3,67 +3,58 @@
 // samples used, the reply bytes' and the actions' number (the last in two bytes), the reply bytes and the actions.
 #![tactic(auto)]
 
-use bridge::{Bridge, Outcome, Stepped};
-use registers::{Event, Fault};
+use bridge::{Bridge, Stepped};
+use refusals::Refusal;
+use registers::{Event, Fault, Shared, State};
+use streams::say;
+
+const USAGE: &[u8] =
+    b"usage: drive\nPuts the events of standard input through the bridge's call and writes what each call answers.\n";
 
 // The factory start of a session, but for a version and a serial number whose bytes can be told apart.
 fn start() -> Bridge {
-    let b = switch_on::factory_start();
-    let mut s = b.state;
-    let mut shared = s.shared;
-    shared.version = 0x12;
-    shared.serial = [0xA1, 0xB2, 0xC3, 0xD4];
-    s.shared = shared;
-    Bridge { state: s }
-}
-
-fn fault(code: u8) -> Fault {
-    match code {
-        codes::FRAME => Fault::Frame,
-        codes::OVERRUN => Fault::Overrun,
-        _ => Fault::Parity,
+    let state = switch_on::factory_start().state;
+    let shared = Shared {
+        version: 0x12,
+        serial: [0xA1, 0xB2, 0xC3, 0xD4],
+        ..state.shared
+    };
+    Bridge {
+        state: State { shared, ..state },
     }
 }
 
+// An event by this input's own numbers; a value that is no fault's code counts as parity.
 fn event(kind: u8, value: u8) -> Event {
-    if kind == 0 {
-        return Event::Byte(value);
+    match kind {
+        0 => Event::Byte(value),
+        _ => Event::Fault(Fault::try_from(value).unwrap_or(Fault::Parity)),
     }
-    Event::Fault(fault(value))
 }
 
-fn outcome(o: Outcome) -> u8 {
-    match o {
-        Outcome::Taken => 0,
-        Outcome::Refused(r) => refusals::number(r),
+// (`export` has the same for C; four lines are no reason for this program to stand on it.)
+fn number(outcome: Result<(), Refusal>) -> u8 {
+    match outcome {
+        Ok(()) => 0,
+        Err(why) => u8::from(why),
     }
 }
 
 // Writes a call's answer: what it counts can't be more than the buffers hold.
-fn show(r: Stepped, replies: &[u8], actions: &[u8]) {
-    let o = r.outcome;
-    let sampled = r.samples;
-    let sent = r.replies;
-    let acted = r.actions;
-    if 255 < sampled {
-        return;
-    }
-    if 64 < sent {
-        return;
-    }
-    if 512 < acted {
-        return;
-    }
-    let low = (acted % 256) as u8;
-    let high = (acted / 256) as u8;
-    io::write_all(1, &[outcome(o), sampled as u8, sent as u8, low, high]);
-    let n = io::count(sent as isize, replies);
-    io::write_all(1, &replies[..n]);
-    let m = io::count((4 * acted) as isize, actions);
-    io::write_all(1, &actions[..m]);
+fn show(r: Stepped, replies: &[u8], actions: &[u8]) -> Option<()> {
+    let sampled = u8::try_from(r.samples).ok()?;
+    let sent = u8::try_from(r.replies).ok()?;
+    let acted = u16::try_from(r.actions).ok()?;
+    let replies = replies.get(..r.replies)?;
+    let actions = actions.get(..4 * usize::from(acted))?;
+    let [low, high] = acted.to_le_bytes();
+    say(&[number(r.outcome), sampled, sent, low, high]);
+    say(replies);
+    say(actions);
+    Some(())
 }
 
-// One call, with empty buffers.
+// One call, with buffers of its own.
 fn call(b: Bridge, e: Event, samples: &[u8]) -> Bridge {
     let mut actions = [0u8; 2048];
     let mut replies = [0u8; 64];
@@ -72,37 +63,21 @@ fn call(b: Bridge, e: Event, samples: &[u8]) -> Bridge {
     r.bridge
 }
 
-// A byte as a count.
-fn wide(x: u8) -> usize {
-    x as usize
-}
-
-fn drive(input: &[u8]) {
+// Every event of the input. (Beside the walk in `cases`: a pattern is all that they share.)
+fn drive(events: &[u8]) {
     let mut b = start();
-    let mut i: usize = 0;
-    while 3 <= input.len() - i {
-        let e = event(input[i], input[i + 1]);
-        let n = wide(input[i + 2]);
-        let from = i + 3;
-        if input.len() - from < n {
+    let mut left = events;
+    while let [kind, value, size, rest @ ..] = left {
+        let Some((samples, others)) = rest.split_at_checked(usize::from(*size)) else {
             return;
-        }
-        i = from + n;
-        let c = call(b, e, &input[from..i]);
-        b = c;
+        };
+        b = call(b, event(*kind, *value), samples);
+        left = others;
     }
 }
 
-fn to_go_on(rt: &HostRuntime) -> bool {
-    input::goes_on(
-        rt,
-        b"usage: drive\nPuts the events of standard input through the bridge's call and writes what each call answers.\n",
-        b"",
-    )
-}
-
 fn main(rt: HostRuntime) {
-    if !to_go_on(&rt) {
+    if !input::goes_on(&rt, USAGE, b"") {
         return;
     }
     let mut events = io::large_buffer();

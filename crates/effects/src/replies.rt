@@ -2,7 +2,7 @@
 ghost use Rattle.std.specs.Prelude.{◌≡◌, cond, eqb, [], ◌∷◌, map};
 ghost use Rattle.decisions.specs.Said.{returned, sent, returned_and_sent};
 ghost use Rattle.decisions.specs.Effects.{said_of};
-ghost use Rattle.effects.specs.Replies.{reply_bytes, response, response_of};
+ghost use Rattle.effects.specs.Replies.{reply_bytes, response, response_of, IsStored};
 
 use crate::returning::checked;
 use crate::{Reply, Responded};
@@ -11,47 +11,24 @@ use registers::State;
 use registers::parts::reports_on;
 
 // Data sent: ERROR stays.
+#[tactic(auto, using(crate::proofs::Responses::all_sent))]
 fn send(s: State, reply: Reply) -> Responded
     ensures { response result.state (reply_bytes result.state result.reply) ≡ response_of s (map sent (reply_bytes s reply)) }
 {
     Responded { state: s, reply }
 }
 
-// A code returned: stored, and sent with reports on.
-fn store(mut s: State, code: u8) -> Responded
-    ensures { response result.state (reply_bytes result.state result.reply) ≡ response_of s (returned code ∷ []) }
+// A code returned: stored, with one reply where reports are on and another where they are off.
+fn store(mut s: State, code: u8, on: Reply, off: Reply) -> Responded
+    ensures { IsStored s code on off result }
 {
     s.page.error = code;
-    if reports_on(s.page.flags) {
-        return Responded {
-            state: s,
-            reply: Reply::One(code),
-        };
-    }
-    Responded {
-        state: s,
-        reply: Reply::Empty,
-    }
-}
-
-// The codes of a load and of its exchange.
-fn store_twice(mut s: State) -> Responded
-    ensures { response result.state (reply_bytes result.state result.reply) ≡ response_of s (returned 0 ∷ returned 0 ∷ []) }
-{
-    s.page.error = codes::NO_ERROR;
-    if reports_on(s.page.flags) {
-        return Responded {
-            state: s,
-            reply: Reply::Two(codes::NO_ERROR, codes::NO_ERROR),
-        };
-    }
-    Responded {
-        state: s,
-        reply: Reply::Empty,
-    }
+    let reply = if reports_on(s.page.flags) { on } else { off };
+    Responded { state: s, reply }
 }
 
 // A code returned and sent whatever the reports.
+#[tactic(auto, unfolding(decisions::specs::Said::error_after, decisions::specs::Said::replies_of))]
 fn store_and_send(mut s: State, code: u8) -> Responded
     ensures { response result.state (reply_bytes result.state result.reply) ≡ response_of s (returned_and_sent code ∷ []) }
 {
@@ -60,30 +37,6 @@ fn store_and_send(mut s: State, code: u8) -> Responded
         state: s,
         reply: Reply::One(code),
     }
-}
-
-// The code of an exchange, and then the low bytes of the packet register.
-fn store_then_low(mut s: State, x: u8) -> Responded
-    ensures { response result.state (reply_bytes result.state result.reply) ≡ response_of s (said_of s x Answer.ReturnsThenLow) }
-{
-    s.page.error = codes::NO_ERROR;
-    if reports_on(s.page.flags) {
-        return Responded {
-            state: s,
-            reply: Reply::OneThenLow(codes::NO_ERROR),
-        };
-    }
-    Responded {
-        state: s,
-        reply: Reply::Low,
-    }
-}
-
-// What the sample is checked for: 00 for a low one, else a code.
-fn check(s: State, x: u8, code: u8) -> Responded
-    ensures { response result.state (reply_bytes result.state result.reply) ≡ response_of s (said_of s x (Answer.Checked code)) }
-{
-    store(s, checked(x, code))
 }
 
 // 0F for a low sample, 8F for a high one.
@@ -99,10 +52,16 @@ pub fn respond(s: State, answer: Answer, x: u8) -> Responded
 {
     match answer {
         Answer::Silent => send(s, Reply::Empty),
-        Answer::Returns(code) => store(s, code),
-        Answer::ReturnsTwice => store_twice(s),
+        Answer::Returns(code) => store(s, code, Reply::One(code), Reply::Empty),
+        Answer::ReturnsTwice => {
+            let twice = Reply::Two(codes::NO_ERROR, codes::NO_ERROR);
+            store(s, codes::NO_ERROR, twice, Reply::Empty)
+        }
         Answer::ReturnsAndSends(code) => store_and_send(s, code),
-        Answer::Checked(code) => check(s, x, code),
+        Answer::Checked(code) => {
+            let code = checked(x, code);
+            store(s, code, Reply::One(code), Reply::Empty)
+        }
         Answer::Sends(v) => send(s, Reply::One(v)),
         Answer::SendsSample => send(s, Reply::One(x)),
         Answer::SendsLevel => send(s, Reply::One(level_byte(x))),
@@ -111,6 +70,9 @@ pub fn respond(s: State, answer: Answer, x: u8) -> Responded
         Answer::SendsTimings => send(s, Reply::Timings),
         Answer::SendsPacket => send(s, Reply::Packet),
         Answer::SendsLow => send(s, Reply::Low),
-        Answer::ReturnsThenLow => store_then_low(s, x),
+        Answer::ReturnsThenLow => {
+            let with_code = Reply::OneThenLow(codes::NO_ERROR);
+            store(s, codes::NO_ERROR, with_code, Reply::Low)
+        }
     }
 }

@@ -13,6 +13,7 @@ pub(crate) fn checked(x: u8, code: u8) -> u8
 }
 
 // The codes of an answer, where the samples gave x; what the state holds makes no difference to them.
+#[tactic(auto, using(decisions::proofs::Sent::codes_sent), unfolding(decisions::specs::Said::codes_of))]
 pub fn returned(answer: Answer, x: u8) -> Returned
     ensures { ReturnedBy answer x result }
 {

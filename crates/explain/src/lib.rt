@@ -2,23 +2,13 @@
 // the system has none that could say it. The program `scripts` compares it.
 #![tactic(auto)]
 
-use text::Expected;
+use text::{Expected, Wrong};
 
 fn say(fd: i32, text: &[u8]) {
     io::write_all(fd, text);
 }
 
-fn say_operands(fd: i32, n: u8) {
-    match n {
-        0 => say(fd, b"no operand"),
-        1 => say(fd, b"one operand"),
-        _ => {
-            io::print_decimal(fd, n as u64);
-            say(fd, b" operands");
-        }
-    }
-}
-
+// No Display: with it come a type for the line and a writer round the descriptor, more than the two functions here.
 fn say_expected(fd: i32, e: Expected) {
     match e {
         Expected::Statement => say(fd, b"send, samples, fault or a command's name"),
@@ -26,20 +16,25 @@ fn say_expected(fd: i32, e: Expected) {
         Expected::Count => say(fd, b"a count from 1 to 99999"),
         Expected::Fault => say(fd, b"frame, overrun or parity"),
         Expected::LineEnd => say(fd, b"the line's end"),
-        Expected::Operands(n) => say_operands(fd, n),
+        Expected::Operands(0) => say(fd, b"no operand"),
+        Expected::Operands(1) => say(fd, b"one operand"),
+        Expected::Operands(n) => {
+            io::print_decimal(fd, n as u64);
+            say(fd, b" operands");
+        }
         Expected::Room => say(fd, b"no more than 32,768 bytes in all"),
     }
 }
 
 // Says in a line where a script is wrong and what was expected there. It answers nothing and is lent nothing to change, and what is
 // written to a descriptor no contract can say, so it has none; where the place stands is `text::place::position`'s to promise.
-pub fn explain(fd: i32, text: &[u8], place: usize, expected: Expected) {
-    let p = text::place::position(text, place);
+pub fn explain(fd: i32, text: &[u8], wrong: Wrong) {
+    let p = text::place::position(text, wrong.place);
     say(fd, b"line ");
     io::print_decimal(fd, p.line as u64);
     say(fd, b", column ");
     io::print_decimal(fd, p.column as u64);
     say(fd, b": expected ");
-    say_expected(fd, expected);
+    say_expected(fd, wrong.expected);
     say(fd, b"\n");
 }

@@ -1,2 +1,1 @@
-pub mod CallOutcomes
 pub mod Replays

@@ -1,36 +1,33 @@
 -- What the functions of include/bridge.h give: a number, and everything behind their pointers. "0 says that a call was taken."
-use Rattle.std.specs.Prelude.{ℕ, cond, List, [], ◌∷◌, eqb, length}
+use Rattle.std.specs.Prelude.{ℕ, cond, List, eqb, length, Result, Ok, Err}
+use Rattle.std.specs.Result.{result_map_both}
 use Rattle.wire.specs.Buffer.{fits_in}
 use Rattle.registers.specs.Ranges.{state_fits}
 use Rattle.registers.specs.declared.State.{State}
+use Rattle.registers.specs.Registers.{fault_of}
+use Rattle.registers.specs.declared.Event.{Event}
 use Rattle.registers.specs.declared.Event.TheVariants as e
-use Rattle.registers.specs.declared.Fault.TheVariants as k
-use Rattle.codes.specs.Tables.{Entry, ◌is◌, lookup}
 use Rattle.grammar.specs.declared.Verdict.{Verdict}
 use Rattle.grammar.specs.declared.Verdict.TheVariants as v
 use Rattle.bridge.specs.Answering.{Lent, Given, answer_of}
 use Rattle.bridge.specs.declared.Bridge.{Bridge}
-use Rattle.bridge.specs.declared.Outcome.{Outcome}
-use Rattle.bridge.specs.declared.Outcome.TheVariants as o
 use Rattle.bridge.specs.Judging.{judgement_of}
-use Rattle.bridge.specs.declared.Judgement.{Judgement}
-use Rattle.bridge.specs.declared.Judgement.TheVariants as j
 use Rattle.switch_on.specs.Start.{starting}
 use Rattle.switch_on.specs.SwitchOn.{Switched, switch_of}
 use Rattle.switch_on.specs.declared.Device.{Device}
-use Rattle.switch_on.specs.declared.Outcome as switch
-use Rattle.switch_on.specs.declared.Outcome.TheVariants as s
 use Rattle.records.specs.Records as r
 use Rattle.state_bytes.specs.StateBytes.{state_size, state_bytes, state_in, is_state}
 use Rattle.refusals.specs.Refusals.{number_of}
 use Rattle.refusals.specs.declared.Refusal.{Refusal}
 use Rattle.refusals.specs.declared.Refusal.TheVariants.{Ranges, Samples, Actions, Replies, Kind, FaultBody}
-pub use Rattle.export.specs.declared.arguments.Asked.{Asked}
-pub use Rattle.export.specs.declared.arguments.Asked.TheVariants as a
 
 -- the bridge whose state these bytes are
 abbrev pub bridge_in : List ℕ → Bridge
 bridge_in state = record { state = state_in state }
+
+-- .. where they are a state's: "1 if `state` is no state"
+abbrev pub bridge_asked : List ℕ → Result Bridge Refusal
+bridge_asked state = cond (is_state state) (Ok (bridge_in state)) (Err Ranges)
 
 -- BRIDGE_FACTORY_START: "The state that every session starts with goes to `state`. 1 if this has another length."
 pub record StartCall : Type 0 where
@@ -58,42 +55,37 @@ step_call n state as' rs used sent acted = record { number = n; state = state; a
 
 -- "a received byte (kind BRIDGE_BYTE, the byte), or a line fault (BRIDGE_FAULT, 81 frame, 82 overrun, 83 parity, hex)"; "8 for another
 -- kind, 9 for another fault"
-abbrev pub fault_table : List (Entry Asked)
-fault_table = 0x81 is a.Event (e.Fault k.Frame) ∷ 0x82 is a.Event (e.Fault k.Overrun) ∷ 0x83 is a.Event (e.Fault k.Parity) ∷ []
+abbrev pub fault_asked : ℕ → Result Event Refusal
+fault_asked value = result_map_both e.Fault (λ _. FaultBody) (fault_of value)
 
-abbrev pub fault_asked : ℕ → Asked
-fault_asked value = lookup (a.Refused FaultBody) value fault_table
-
-abbrev pub event_asked : ℕ → ℕ → Asked
-event_asked kind value = cond (eqb kind 1) (a.Event (e.Byte value)) (cond (eqb kind 2) (fault_asked value) (a.Refused Kind))
+abbrev pub event_asked : ℕ → ℕ → Result Event Refusal
+event_asked kind value = cond (eqb kind 1) (Ok (e.Byte value)) (cond (eqb kind 2) (fault_asked value) (Err Kind))
 
 -- "A refused call changes no byte behind any pointer, but for the counts, which are 0"
 abbrev pub step_refused : ℕ → List ℕ → Lent → StepCall
 step_refused n state l = step_call n state l.actions l.replies 0 0 0
 
-abbrev pub outcome_number : Outcome → ℕ
-outcome_number o.Taken = 0
-outcome_number (o.Refused why) = number_of why
+abbrev pub outcome_number : Result (Unit {0}) Refusal → ℕ
+outcome_number (Ok u) = 0
+outcome_number (Err why) = number_of why
 
 -- "Taken, the new state is in `state`"
-abbrev pub state_after : Outcome → State → List ℕ → List ℕ
-state_after o.Taken s state = state_bytes s
-state_after (o.Refused why) s state = state
+abbrev pub state_after : Result (Unit {0}) Refusal → State → List ℕ → List ℕ
+state_after (Ok u) s state = state_bytes s
+state_after (Err why) s state = state
 
 abbrev pub step_answered : List ℕ → Given → StepCall
 step_answered state g =
     step_call (outcome_number g.answer.outcome) (state_after g.answer.outcome g.answer.bridge.state state) g.actions g.replies g.answer.samples g.answer.replies g.answer.actions
 
 -- a call without an event: "the lowest number that applies", so the state and the marks are looked at before 8 and 9
-abbrev pub without_event : State → Refusal → ℕ → ℕ → ℕ → ℕ → ℕ → ℕ → ℕ
+abbrev pub without_event : State → Refusal → ℕ → ℕ → ℕ → ℕ → ℕ → ℕ → Refusal
 without_event s reason samples sampled actions acted replies replied =
-    cond (state_fits s)
-    (cond (fits_in samples sampled 0) (cond (fits_in actions acted 0) (cond (fits_in replies replied 0) (number_of reason) (number_of Replies)) (number_of Actions)) (number_of Samples))
-    (number_of Ranges)
+    cond (state_fits s) (cond (fits_in samples sampled 0) (cond (fits_in actions acted 0) (cond (fits_in replies replied 0) reason Replies) Actions) Samples) Ranges
 
-abbrev pub step_asked : List ℕ → Lent → Asked → StepCall
-step_asked state l (a.Event e) = step_answered state (answer_of (bridge_in state) e l)
-step_asked state l (a.Refused why) = step_refused (without_event (state_in state) why (length l.samples) l.sampled (length l.actions) l.acted (length l.replies) l.replied) state l
+abbrev pub step_asked : List ℕ → Lent → Result Event Refusal → StepCall
+step_asked state l (Ok e) = step_answered state (answer_of (bridge_in state) e l)
+step_asked state l (Err why) = step_refused (number_of (without_event (state_in state) why (length l.samples) l.sampled (length l.actions) l.acted (length l.replies) l.replied)) state l
 
 unfoldable pub step_gives : List ℕ → ℕ → ℕ → Lent → StepCall
 step_gives state kind value l = cond (is_state state) (step_asked state l (event_asked kind value)) (step_refused (number_of Ranges) state l)
@@ -124,13 +116,15 @@ code_in v.Whole = 0
 code_in v.Open = 0
 code_in (v.Wrong k w) = w
 
-abbrev pub judge_answered : ℕ → ℕ → ℕ → Judgement → JudgeAnswer
-judge_answered verdict place code (j.Judged w) = judge_answer 0 (verdict_number w) (place_of w) (code_in w)
-judge_answered verdict place code (j.Refused why) = judge_answer (number_of why) verdict place code
+abbrev pub judge_answered : ℕ → ℕ → ℕ → Result Verdict Refusal → JudgeAnswer
+judge_answered verdict place code (Ok w) = judge_answer 0 (verdict_number w) (place_of w) (code_in w)
+judge_answered verdict place code (Err why) = judge_answer (number_of why) verdict place code
+
+abbrev pub judge_asked : List ℕ → List ℕ → Result Verdict Refusal
+judge_asked state bytes = cond (is_state state) (judgement_of (bridge_in state) bytes) (Err Ranges)
 
 unfoldable pub judge_gives : List ℕ → List ℕ → ℕ → ℕ → ℕ → JudgeAnswer
-judge_gives state bytes verdict place code =
-    cond (is_state state) (judge_answered verdict place code (judgement_of (bridge_in state) bytes)) (judge_answer (number_of Ranges) verdict place code)
+judge_gives state bytes verdict place code = judge_answered verdict place code (judge_asked state bytes)
 
 -- BRIDGE_SWITCH_ON: "the state goes to `state`, the actions to the buffer from the mark on. .. 1 if `state` has another length."
 pub record SwitchCall : Type 0 where
@@ -145,12 +139,8 @@ switch_call n state as' acted = record { number = n; state = state; actions = as
 abbrev pub device_of : ℕ → ℕ → ℕ → Device
 device_of cycles version serial = record { cycles = cycles; version = version; serial = r.word32 serial }
 
-abbrev pub switch_number : switch.Outcome → ℕ
-switch_number s.On = 0
-switch_number (s.Refused why) = number_of why
-
 abbrev pub switch_answered : Switched → SwitchCall
-switch_answered x = switch_call (switch_number x.answer.outcome) (state_bytes x.answer.bridge.state) x.buffer x.answer.actions
+switch_answered x = switch_call (outcome_number x.answer.outcome) (state_bytes x.answer.bridge.state) x.buffer x.answer.actions
 
 unfoldable pub switch_gives : List ℕ → List ℕ → Device → List ℕ → List ℕ → ℕ → SwitchCall
 switch_gives stored factory d state buffer mark =

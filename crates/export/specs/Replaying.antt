@@ -1,11 +1,12 @@
 -- What bridge_replay of include/bridge.h gives: "Replays a session as far as surely fits into the output, and says how many bytes were
 -- written": the steps of a run (session/specs/Runs.antt).
-use Rattle.std.specs.Prelude.{ℕ, ◌≡◌, true, cond, not, List, eqb, length}
+use Rattle.std.specs.Prelude.{ℕ, ◌≡◌, true, cond, not, List, eqb, length, Result, Ok, Err}
 use Rattle.wire.specs.Buffer.{overwrite}
 use Rattle.session.specs.declared.replay.Cursor.{Cursor}
 use Rattle.session.specs.Runs.{Steps, steps_of, all_steps}
 use Rattle.state_bytes.specs.StateBytes.{state_bytes, is_state}
 use Rattle.refusals.specs.Refusals.{number_of}
+use Rattle.refusals.specs.declared.Refusal.{Refusal}
 use Rattle.refusals.specs.declared.Refusal.TheVariants.{Ranges}
 use Rattle.export.specs.Exported.{bridge_in}
 
@@ -24,6 +25,10 @@ c_cursor state at end sample sampled done = record { state = state; at = at; end
 -- "the replay is over when `done` is not 0"
 abbrev pub cursor_of : CCursor → Cursor
 cursor_of h = record { bridge = bridge_in h.state; at = h.at; end = h.end; sample = h.sample; sampled = h.sampled; done = not (eqb h.done 0) }
+
+-- .. where its state is one
+abbrev pub cursor_asked : CCursor → Result Cursor Refusal
+cursor_asked h = cond (is_state h.state) (Ok (cursor_of h)) (Err Ranges)
 
 -- .. and as it is handed back
 abbrev pub c_cursor_of : Cursor → CCursor

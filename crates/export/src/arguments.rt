@@ -1,8 +1,8 @@
 // What C hands over as numbers: an event, a device, a cursor.
-ghost use Rattle.std.specs.Prelude.{◌≡◌, length};
-ghost use Rattle.state_bytes.specs.StateBytes.{state_size};
-ghost use Rattle.export.specs.Exported.{fault_asked, event_asked, without_event, device_of};
-ghost use Rattle.export.specs.Replaying.{c_cursor, cursor_of};
+ghost use Rattle.std.specs.Prelude.{◌≡◌, true, OnOk};
+ghost use Rattle.state_bytes.specs.StateBytes.{is_state};
+ghost use Rattle.export.specs.Exported.{bridge_asked, event_asked, without_event, device_of};
+ghost use Rattle.export.specs.Replaying.{c_cursor, cursor_asked};
 
 use bridge::Bridge;
 use refusals::Refusal;
@@ -11,44 +11,36 @@ use session::replay::Cursor;
 use state_bytes::decoding;
 use switch_on::Device;
 
-// An event, or why there is none.
-#[derive(Clone, Copy)]
-pub(crate) enum Asked {
-    Event(Event),
-    Refused(Refusal),
-}
-
-// The kinds of events.
+// The kinds of events, by the numbers of include/bridge.h.
 const BYTE: u8 = 1;
 
 const FAULT: u8 = 2;
 
-// A line fault by its code.
-fn fault(value: u8) -> Asked
-    ensures { result ≡ fault_asked value }
+// The bridge whose state these bytes are, if they are a state's.
+#[tactic(auto, using(state_bytes::proofs::Back::state_facts))]
+pub(crate) fn bridge_in(state: &[u8]) -> Result<Bridge, Refusal>
+    ensures gives { result ≡ bridge_asked state.now }
+    ensures is_state { OnOk result (is_state state.now ≡ true) }
 {
-    match value {
-        codes::FRAME => Asked::Event(Event::Fault(Fault::Frame)),
-        codes::OVERRUN => Asked::Event(Event::Fault(Fault::Overrun)),
-        codes::PARITY => Asked::Event(Event::Fault(Fault::Parity)),
-        _ => Asked::Refused(Refusal::FaultBody),
-    }
+    let state = decoding::decoded(state).ok_or(Refusal::Ranges)?;
+    Ok(Bridge { state })
 }
 
 // An event by its kind and its value.
-pub(crate) fn event_of(kind: u8, value: u8) -> Asked
+pub(crate) fn event_of(kind: u8, value: u8) -> Result<Event, Refusal>
     ensures { result ≡ event_asked kind value }
 {
-    if kind == BYTE {
-        return Asked::Event(Event::Byte(value));
+    match kind {
+        BYTE => Ok(Event::Byte(value)),
+        FAULT => match Fault::try_from(value) {
+            Ok(fault) => Ok(Event::Fault(fault)),
+            Err(_) => Err(Refusal::FaultBody),
+        },
+        _ => Err(Refusal::Kind),
     }
-    if kind == FAULT {
-        return fault(value);
-    }
-    Asked::Refused(Refusal::Kind)
 }
 
-// The number of a call without an event: the lowest that applies.
+// Why a call without an event is refused: the lowest refusal that applies.
 pub(crate) fn no_event(
     s: State,
     why: Refusal,
@@ -58,40 +50,34 @@ pub(crate) fn no_event(
     acted: usize,
     replies: usize,
     replied: usize,
-) -> u8
+) -> Refusal
     ensures { result ≡ without_event s why samples sampled actions acted replies replied }
 {
     if !registers::in_range(s) {
-        return refusals::number(Refusal::Ranges);
+        Refusal::Ranges
+    } else if !wire::fits(samples, sampled, 0) {
+        Refusal::Samples
+    } else if !wire::fits(actions, acted, 0) {
+        Refusal::Actions
+    } else if !wire::fits(replies, replied, 0) {
+        Refusal::Replies
+    } else {
+        why
     }
-    if !wire::fits(samples, sampled, 0) {
-        return refusals::number(Refusal::Samples);
-    }
-    if !wire::fits(actions, acted, 0) {
-        return refusals::number(Refusal::Actions);
-    }
-    if !wire::fits(replies, replied, 0) {
-        return refusals::number(Refusal::Replies);
-    }
-    refusals::number(why)
 }
 
 // What the device has besides an image, with its serial number as bytes.
 pub(crate) fn device(cycles: u8, version: u8, serial: u32) -> Device
     ensures { result ≡ device_of cycles version serial }
 {
-    let a = (serial % 256) as u8;
-    let b = (serial / 256 % 256) as u8;
-    let c = (serial / 65536 % 256) as u8;
-    let d = (serial / 16777216 % 256) as u8;
     Device {
         cycles,
         version,
-        serial: [a, b, c, d],
+        serial: serial.to_le_bytes(),
     }
 }
 
-// A replay's cursor; it is done with any mark but 0. The caller shows that `state` has a state's size.
+// A replay's cursor; it is done with any mark but 0.
 pub(crate) fn cursor_of(
     state: &[u8],
     at: usize,
@@ -99,17 +85,16 @@ pub(crate) fn cursor_of(
     sample: usize,
     sampled: usize,
     done: u8,
-) -> Cursor
-    requires { length state.now ≡ state_size }
-    ensures { result ≡ cursor_of (c_cursor state.now at end sample sampled done) }
+) -> Result<Cursor, Refusal>
+    ensures gives { result ≡ cursor_asked (c_cursor state.now at end sample sampled done) }
+    ensures is_state { OnOk result (is_state state.now ≡ true) }
 {
-    let s = decoding::state_of(state);
-    Cursor {
-        bridge: Bridge { state: s },
+    Ok(Cursor {
+        bridge: bridge_in(state)?,
         at,
         end,
         sample,
         sampled,
         done: done != 0,
-    }
+    })
 }

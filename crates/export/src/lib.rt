@@ -3,32 +3,31 @@
 
 ghost use Rattle.std.specs.Prelude.{◌≡◌};
 ghost use Rattle.bridge.specs.Answering.{lent};
-ghost use Rattle.export.specs.Exported.{start_call, start_gives, step_call, step_gives, judge_answer, judge_gives, device_of, switch_call, switch_gives};
+ghost use Rattle.export.specs.Exported.{start_call, start_gives, step_call, step_gives, judge_asked, judge_answer, judge_gives, device_of, switch_call, switch_gives};
 ghost use Rattle.export.specs.Replaying.{c_cursor, replay_call, Replays};
 
 mod answers;
 mod arguments;
 
 use answers::TAKEN;
-use arguments::Asked;
-use bridge::{Bridge, Judgement};
+use grammar::Verdict;
 use refusals::Refusal;
 use state_bytes::{decoding, encoding};
 
 // The state that every session starts with goes to `state`.
+#[tactic(auto, unfolding(crate::specs::Exported::start_gives))]
 pub fn bridge_factory_start(state: &mut [u8]) -> u8
     ensures { start_call result state.new ≡ start_gives state.old }
 {
     if state.len() != decoding::SIZE {
-        return refusals::number(Refusal::Ranges);
+        return u8::from(Refusal::Ranges);
     }
-    let b = switch_on::factory_start();
-    let s = b.state;
-    encoding::store(state, s);
+    encoding::store(state, switch_on::factory_start().state);
     TAKEN
 }
 
 // One event, by its kind and its value.
+#[tactic(auto, using(state_bytes::proofs::Back::state_facts), unfolding(crate::specs::Exported::step_gives))]
 pub fn bridge_step(
     state: &mut [u8],
     kind: u8,
@@ -48,37 +47,40 @@ pub fn bridge_step(
     *used = 0;
     *sent = 0;
     *made = 0;
-    if !decoding::is_state(state) {
-        return refusals::number(Refusal::Ranges);
-    }
-    let asked = arguments::event_of(kind, value);
-    match asked {
-        Asked::Refused(why) => {
-            let s = decoding::state_of(state);
-            arguments::no_event(
-                s,
-                why,
-                samples.len(),
-                sampled,
-                actions.len(),
-                acted,
-                replies.len(),
-                replied,
-            )
-        }
-        Asked::Event(event) => {
-            let s = decoding::state_of(state);
-            let b = Bridge { state: s };
+    let b = match arguments::bridge_in(state) {
+        Ok(b) => b,
+        Err(why) => return u8::from(why),
+    };
+    match arguments::event_of(kind, value) {
+        Ok(event) => {
             let x = b.step(event, samples, sampled, actions, acted, replies, replied);
             *used = x.samples;
             *sent = x.replies;
             *made = x.actions;
             answers::finish(state, x)
         }
+        Err(why) => u8::from(arguments::no_event(
+            b.state,
+            why,
+            samples.len(),
+            sampled,
+            actions.len(),
+            acted,
+            replies.len(),
+            replied,
+        )),
     }
 }
 
+// The verdict on command bytes from a start.
+fn judge(state: &[u8], bytes: &[u8]) -> Result<Verdict, Refusal>
+    ensures { result ≡ judge_asked state.now bytes.now }
+{
+    arguments::bridge_in(state)?.judge(bytes)
+}
+
 // Judges command bytes from a start.
+#[tactic(auto, unfolding(crate::specs::Exported::judge_gives))]
 pub fn bridge_judge(
     state: &[u8],
     bytes: &[u8],
@@ -88,24 +90,20 @@ pub fn bridge_judge(
 ) -> u8
     ensures { judge_answer result verdict.new place.new code.new ≡ judge_gives state.now bytes.now verdict.old place.old code.old }
 {
-    if !decoding::is_state(state) {
-        return refusals::number(Refusal::Ranges);
-    }
-    let s = decoding::state_of(state);
-    let b = Bridge { state: s };
-    let j = b.judge(bytes);
-    match j {
-        Judgement::Refused(why) => refusals::number(why),
-        Judgement::Judged(v) => {
-            *verdict = answers::verdict_number(v);
-            *place = answers::place_of(v);
-            *code = answers::code_in(v);
+    match judge(state, bytes) {
+        Ok(v) => {
+            let (number, at, told) = answers::in_numbers(v);
+            *verdict = number;
+            *place = at;
+            *code = told;
             TAKEN
         }
+        Err(why) => u8::from(why),
     }
 }
 
 // Switches on from two images of settings.
+#[tactic(auto, unfolding(crate::specs::Exported::switch_gives))]
 pub fn bridge_switch_on<'a>(
     stored: &'a [u8],
     factory: &'a [u8],
@@ -121,16 +119,13 @@ pub fn bridge_switch_on<'a>(
 {
     *made = 0;
     if state.len() != decoding::SIZE {
-        return refusals::number(Refusal::Ranges);
+        return u8::from(Refusal::Ranges);
     }
     let d = arguments::device(cycles, version, serial);
     let x = switch_on::switch_on(stored, factory, d, actions, acted);
     *made = x.actions;
-    let b = x.bridge;
-    let s = b.state;
-    encoding::store(state, s);
-    let o = x.outcome;
-    answers::switch_number(o)
+    encoding::store(state, x.bridge.state);
+    answers::number(x.outcome)
 }
 
 // Replays a session as far as surely fits into the output; the cursor is changed to where to go on.
@@ -148,10 +143,10 @@ pub fn bridge_replay(
     ensures { Replays session.now (c_cursor state.old at.old end.old sample.old sampled.old done.old) output.old (replay_call result (c_cursor state.new at.new end.new sample.new sampled.new done.new) output.new written.new) }
 {
     *written = 0;
-    if !decoding::is_state(state) {
-        return refusals::number(Refusal::Ranges);
-    }
-    let c = arguments::cursor_of(state, *at, *end, *sample, *sampled, *done);
+    let c = match arguments::cursor_of(state, *at, *end, *sample, *sampled, *done) {
+        Ok(c) => c,
+        Err(why) => return u8::from(why),
+    };
     let r = session::replay::run(c, session, output);
     let next = r.cursor;
     *at = next.at;
@@ -160,8 +155,6 @@ pub fn bridge_replay(
     *sampled = next.sampled;
     *done = encoding::mark(next.done);
     *written = r.written;
-    let b = next.bridge;
-    let t = b.state;
-    encoding::store(state, t);
+    encoding::store(state, next.bridge.state);
     TAKEN
 }

@@ -7,7 +7,8 @@ use native.Mathlib.Omega.{arith}
 use lib.ListN.{get_or}
 use Rattle.codes.specs.Codes.{any_rejecting}
 use Rattle.grammar.specs.Grammar.{Context}
-use Rattle.grammar.specs.Scanner.{Scanner, Scanned, Accepted, Rejected, between, scan, Course, through, rejected_at, later, resume, scan_all}
+use Rattle.std.specs.Prelude.{Result, Ok, Err}
+use Rattle.grammar.specs.Scanner.{Scanner, between, scan, Course, through, rejected_at, later, resume, scan_all}
 use Rattle.grammar.specs.Verdict.{FirstWrong}
 use Rattle.grammar.specs.Machines.{Machine, Call, NotRefused, not_refused, final, bytes, told, was_rejected, NoneRejected, FirstRejected, ReturnedAt, Demand3}
 use Rattle.grammar.proofs.Follows.{Agree, Follows, along}
@@ -47,9 +48,9 @@ module _ (M : Machine) (view : M.State → Scanner) (F : Follows M view) where
   unfolding Traced
   traced_byte v w u t ts a r = go (scan v t.byte) refl a
     where
-      go : (o : Scanned) → scan v t.byte ≡ o → Agree o t.codes v w → Traced (resume o (λ (h : Scanner). scan_all h (bytes M ts))) (t.codes ∷ told M ts) u
-      go (Accepted h) q a = traced_later (scan_all h (bytes M ts)) (told M ts) t.codes u a.0 (subst (λ (i : Scanner). Traced (scan_all i (bytes M ts)) (told M ts) u) a.1 r)
-      go (Rejected x) q a = ((ap any_rejecting a.0 ∙ ap (λ (y : Bool). y || false) (reject_code v t.byte x q), λ j h. absurd (omega arith)), a.0)
+      go : (o : Result Scanner ℕ) → scan v t.byte ≡ o → Agree o t.codes v w → Traced (resume o (λ (h : Scanner). scan_all h (bytes M ts))) (t.codes ∷ told M ts) u
+      go (Ok h) q a = traced_later (scan_all h (bytes M ts)) (told M ts) t.codes u a.0 (subst (λ (i : Scanner). Traced (scan_all i (bytes M ts)) (told M ts) u) a.1 r)
+      go (Err x) q a = ((ap any_rejecting a.0 ∙ ap (λ (y : Bool). y || false) (reject_code v t.byte x q), λ j h. absurd (omega arith)), a.0)
 
   traced : (s : M.State) → M.Good s → (ks : List (Call M)) → Traced (scan_all (view s) (bytes M (not_refused M s ks))) (told M (not_refused M s ks)) (view (final M s ks))
   unfolding Traced

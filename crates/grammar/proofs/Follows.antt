@@ -6,13 +6,14 @@ use mathlib.Core.Bool.{Bool, true, false, cond}
 use mathlib.Core.List.{List, [], ◌∷◌}
 use mathlib.Core.Logic.{◌↔◌}
 use Rattle.codes.specs.Codes.{any_rejecting}
-use Rattle.grammar.specs.Scanner.{Between, Scanner, Scanned, Accepted, Rejected, scan}
+use Rattle.std.specs.Prelude.{Result, Ok, Err}
+use Rattle.grammar.specs.Scanner.{Between, Scanner, scan}
 use Rattle.grammar.specs.Machines.{Machine, Call, NotRefused, after_call, not_refused, final}
 
 -- what the scanner makes of a byte, the codes that the machine returns, and the views before and after
-abbrev pub Agree : Scanned → List ℕ → Scanner → Scanner → Type 0
-Agree (Accepted g) ws v v' = (any_rejecting ws ≡ false) × (v' ≡ g)
-Agree (Rejected w) ws v v' = (ws ≡ w ∷ []) × (v' ≡ v)
+abbrev pub Agree : Result Scanner ℕ → List ℕ → Scanner → Scanner → Type 0
+Agree (Ok g) ws v v' = (any_rejecting ws ≡ false) × (v' ≡ g)
+Agree (Err w) ws v v' = (ws ≡ w ∷ []) × (v' ≡ v)
 
 pub record Follows (M : Machine) (view : M.State → Scanner) : Type 0 where
   pub viewed : (s : M.State) → (view s).context ≡ M.context s

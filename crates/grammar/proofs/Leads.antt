@@ -3,15 +3,16 @@ use Prim.Native.Nat.{ℕ}
 use mathlib.Core.Path.{◌≡◌, refl, sym, ◌∙◌, ap}
 use mathlib.Core.Bool.{Bool, true, false, cond}
 use mathlib.Core.List.{List, [], ◌∷◌}
-use Rattle.grammar.specs.Scanner.{Scanner, Scanned, Accepted, Rejected, scan}
+use Rattle.std.specs.Prelude.{Result, Ok, Err}
+use Rattle.grammar.specs.Scanner.{Scanner, scan}
 use Rattle.grammar.specs.Machines.{Machine, Call, not_refused, final, bytes}
 use Rattle.grammar.specs.Following.{Stream, scanner_after, followed, undropped, ByteByByte, Leads}
 use Rattle.grammar.proofs.Follows.{Agree, Follows, along}
 use Rattle.grammar.proofs.Demand3.{seen_between}
 
-pub agreed : (o : Scanned) (ws : List ℕ) (v w : Scanner) → Agree o ws v w → w ≡ scanner_after v o
-agreed (Accepted h) ws v w a = a.1
-agreed (Rejected x) ws v w a = a.1
+pub agreed : (o : Result Scanner ℕ) (ws : List ℕ) (v w : Scanner) → Agree o ws v w → w ≡ scanner_after v o
+agreed (Ok h) ws v w a = a.1
+agreed (Err x) ws v w a = a.1
 
 module _ (M : Machine) (view : M.State → Scanner) (F : Follows M view) where
   led : (s : M.State) → M.Good s → (ks : List (Call M)) → view (final M s ks) ≡ followed (view s) (bytes M (not_refused M s ks))

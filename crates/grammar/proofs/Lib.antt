@@ -1,6 +1,7 @@
 -- The theorems on the grammar, and laws that the functions' proofs cite.
 pub mod Table
 pub mod Lookups
+pub mod Bytes
 pub mod Scans
 pub mod Walks
 pub mod Divisions

@@ -11,7 +11,8 @@ use lib.ListN.{length, get_or, drop, drop_of_length-le}
 use lib.Seq.{drop-cons}
 use Rattle.grammar.specs.Grammar.{Context, ContextChange, commands, count, context_after}
 use Rattle.grammar.specs.WrongCode.{code_for}
-use Rattle.grammar.specs.Scanner.{Place, Extended, Inside, Scanner, Scanned, Accepted, Rejected, Opening, Unknown, Known, Extension, row_of, opening_of, between, going, opened, scan_at, scan, Course, through, rejected_at, later, resume, scan_all}
+use Rattle.std.specs.Prelude.{Result, Ok, Err}
+use Rattle.grammar.specs.Scanner.{Place, Extended, Inside, Scanner, Opening, Unknown, Known, Extension, row_of, opening_of, between, going, opened, scan_at, scan, Course, through, rejected_at, later, resume, scan_all}
 use Rattle.grammar.specs.Verdict.{Whole, Open, Wrong, at_end, verdict}
 use Rattle.grammar.specs.Following.{opening_in, operands_of, operands_in}
 use Rattle.grammar.specs.Lookups.{accepts, code_of, change_of}
@@ -26,29 +27,29 @@ pub going_on : (e : ContextChange) (n b : ℕ) (c : Context) → (n ≡ 0 → �
 going_on e zero b c h = absurd (h refl)
 going_on e (suc n) b c h = let q : suc n - 1 ≡ n = omega arith in ap (λ (m : ℕ). record { context = c; place = Inside e m }) q
 
-pub rejected : (o : Opening) (c : Context) (b w : ℕ) → accepts o c ≡ false → w ≡ code_of o c → Rejected w ≡ opened o c b
-rejected Unknown c b w q e = ap Rejected e
+pub rejected : (o : Opening) (c : Context) (b w : ℕ) → accepts o c ≡ false → w ≡ code_of o c → Err w ≡ opened o c b
+rejected Unknown c b w q e = ap Err e
 rejected (Known k) c b w q e =
-    ap Rejected e ∙ sym (ap (λ (t : Bool). cond t (Accepted (going k.change (count k.operands c) b c)) (Rejected (code_for k.needs c))) q)
+    ap Err e ∙ sym (ap (λ (t : Bool). cond t (Ok (going k.change (count k.operands c) b c)) (Err (code_for k.needs c))) q)
 rejected Extension c b w q e = absurd (true≢false q)
 
-pub accepted : (o : Opening) (c : Context) (b n : ℕ) (e : ContextChange) → accepts o c ≡ true → (o ≡ Extension → ⊥) → n ≡ operands_of o c → e ≡ change_of o → Accepted (going e n b c) ≡ opened o c b
+pub accepted : (o : Opening) (c : Context) (b n : ℕ) (e : ContextChange) → accepts o c ≡ true → (o ≡ Extension → ⊥) → n ≡ operands_of o c → e ≡ change_of o → Ok (going e n b c) ≡ opened o c b
 accepted Unknown c b n e q x m r = absurd (false≢true q)
 accepted (Known k) c b n e q x m r =
-    rw (m, r) (sym (ap (λ (t : Bool). cond t (Accepted (going k.change (count k.operands c) b c)) (Rejected (code_for k.needs c))) q))
+    rw (m, r) (sym (ap (λ (t : Bool). cond t (Ok (going k.change (count k.operands c) b c)) (Err (code_for k.needs c))) q))
 accepted Extension c b n e q x m r = absurd (x refl)
 
 -- 1D between items, and nothing else, opens an extension
-pub opens : (b : ℕ) (x : Bool) (c : Context) → eqb b 0x1D && not x ≡ true → Accepted (record { context = c; place = Extended }) ≡ opened (opening_in b x) c b
+pub opens : (b : ℕ) (x : Bool) (c : Context) → eqb b 0x1D && not x ≡ true → Ok (record { context = c; place = Extended }) ≡ opened (opening_in b x) c b
 unfolding opening_of
 opens b true c h = go (eqb b 0x1D) h
   where
-    go : (t : Bool) → t && false ≡ true → Accepted (record { context = c; place = Extended }) ≡ opened (opening_in b true) c b
+    go : (t : Bool) → t && false ≡ true → Ok (record { context = c; place = Extended }) ≡ opened (opening_in b true) c b
     go true p = absurd (false≢true p)
     go false p = absurd (false≢true p)
 opens b false c h = go (eqb b 0x1D) h
   where
-    go : (t : Bool) → t && true ≡ true → Accepted (record { context = c; place = Extended }) ≡ opened (cond t Extension (row_of b commands)) c b
+    go : (t : Bool) → t && true ≡ true → Ok (record { context = c; place = Extended }) ≡ opened (cond t Extension (row_of b commands)) c b
     go true p = refl
     go false p = absurd (false≢true p)
 
@@ -57,7 +58,7 @@ opens_none b true h e = extension_none b e
 opens_none b false h e = let q = eq-eqb b 0x1D (opening_extension b e) in true≢false (rw q at h)
 
 -- at a place that is known
-pub scan_at_lem : (g : Scanner) (b : ℕ) (p : Place) (r : Scanned) → g.place ≡ p → r ≡ scan_at p g.context b → r ≡ scan g b
+pub scan_at_lem : (g : Scanner) (b : ℕ) (p : Place) (r : Result Scanner ℕ) → g.place ≡ p → r ≡ scan_at p g.context b → r ≡ scan g b
 scan_at_lem g b p r q e = e ∙ ap (λ (x : Place). scan_at x g.context b) (sym q)
 
 -- where an item may begin, and after 1D
@@ -87,22 +88,22 @@ latest_rejected (suc i) k w = let q : i + suc k ≡ suc i + k = omega arith in l
 abbrev pub ReadTo : List ℕ → Scanner → Scanner → ℕ → Type 0
 ReadTo bs g₀ g i = scan_all g₀ bs ≡ latest i (scan_all g (drop i bs))
 
-read_next : (bs : List ℕ) (g₀ g h : Scanner) (i : ℕ) → i < length bs → Accepted h ≡ scan g (get_or bs i 0) → ReadTo bs g₀ g i → ReadTo bs g₀ h (i + 1)
+read_next : (bs : List ℕ) (g₀ g h : Scanner) (i : ℕ) → i < length bs → Ok h ≡ scan g (get_or bs i 0) → ReadTo bs g₀ g i → ReadTo bs g₀ h (i + 1)
 read_next bs g₀ g h i l e q =
     let n : suc i ≡ i + 1 = omega arith in
     q
     ∙ ap (λ (x : List ℕ). latest i (scan_all g x)) (drop-cons bs i 0 l)
-    ∙ ap (λ (x : Scanned). latest i (resume x (λ (h : Scanner). scan_all h (drop (suc i) bs)))) (sym e)
+    ∙ ap (λ (x : Result Scanner ℕ). latest i (resume x (λ (h : Scanner). scan_all h (drop (suc i) bs)))) (sym e)
     ∙ ap (λ (x : ℕ). latest x (scan_all h (drop x bs))) n
 
-read_wrong : (bs : List ℕ) (g₀ g : Scanner) (i w : ℕ) → i < length bs → Rejected w ≡ scan g (get_or bs i 0) → ReadTo bs g₀ g i → Wrong i w ≡ verdict (scan_all g₀ bs)
+read_wrong : (bs : List ℕ) (g₀ g : Scanner) (i w : ℕ) → i < length bs → Err w ≡ scan g (get_or bs i 0) → ReadTo bs g₀ g i → Wrong i w ≡ verdict (scan_all g₀ bs)
 read_wrong bs g₀ g i w l e q =
     let n : i + 0 ≡ i = omega arith in
     sym
     (ap verdict
     (q
     ∙ ap (λ (x : List ℕ). latest i (scan_all g x)) (drop-cons bs i 0 l)
-    ∙ ap (λ (x : Scanned). latest i (resume x (λ (h : Scanner). scan_all h (drop (suc i) bs)))) (sym e)
+    ∙ ap (λ (x : Result Scanner ℕ). latest i (resume x (λ (h : Scanner). scan_all h (drop (suc i) bs)))) (sym e)
     ∙ latest_rejected i 0 w)
     ∙ ap (λ (k : ℕ). Wrong k w) n)
 
@@ -133,7 +134,7 @@ read_short bs g₀ e (suc n) b c i l s r = go (dec_lt (i + 1) (length bs)) (read
 -- THE TURNS OF THE JUDGE'S LOOP, with i bytes read and the byte b at hand
 
 module _ (bs : List ℕ) (g₀ : Scanner) (c : Context) (b : ℕ) (x : Bool) (i : ℕ) (l : i < length bs) (at : b ≡ get_or bs i 0) (r : ReadTo bs g₀ (standing c x) i) where
-  here : {s : Scanned} → s ≡ opened (opening_in b x) c b → s ≡ scan (standing c x) (get_or bs i 0)
+  here : {s : Result Scanner ℕ} → s ≡ opened (opening_in b x) c b → s ≡ scan (standing c x) (get_or bs i 0)
   here e = e ∙ scan_standing c b x ∙ ap (scan (standing c x)) at
 
   pub turn_wrong : accepts (opening_in b x) c ≡ false → (w : ℕ) → w ≡ code_of (opening_in b x) c → Wrong i w ≡ verdict (scan_all g₀ bs)

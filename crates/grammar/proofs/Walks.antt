@@ -8,13 +8,14 @@ use native.Mathlib.Omega.{arith}
 use lib.ListN.{length}
 use Rattle.grammar.specs.Grammar.{Context, ContextChange, Command, extended_commands, legal, count, context_after, last, Item, command, extended, Items, next, join, Orderly, Continuable, Bytes}
 use Rattle.grammar.specs.WrongCode.{code_for}
-use Rattle.grammar.specs.Scanner.{Place, Between, Extended, Inside, Scanner, Accepted, Rejected, Opening, Unknown, Known, Extension, opening_of, extension_of, between, going, opened, scan_at, scan}
+use Rattle.std.specs.Prelude.{Result, Ok, Err}
+use Rattle.grammar.specs.Scanner.{Place, Between, Extended, Inside, Scanner, Opening, Unknown, Known, Extension, opening_of, extension_of, between, going, opened, scan_at, scan}
 use Rattle.grammar.proofs.Table.{opening_known, opening_extension, opening_command, extension_known, extension_none, extension_command}
 
 -- A WALK: the bytes are all accepted, and lead from one scanner to the other
 pub data Walk : Scanner → List ℕ → Scanner → Type 0 where
   stay : {g : Scanner} → Walk g [] g
-  move : {g h i : Scanner} {b : ℕ} {bs : List ℕ} → scan g b ≡ Accepted h → Walk h bs i → Walk g (b ∷ bs) i
+  move : {g h i : Scanner} {b : ℕ} {bs : List ℕ} → scan g b ≡ Ok h → Walk h bs i → Walk g (b ∷ bs) i
 
 pub walk_append : {g h i : Scanner} {xs ys : List ℕ} → Walk g xs h → Walk h ys i → Walk g (xs ++ ys) i
 walk_append stay w = w
@@ -33,12 +34,12 @@ operands_walk e (suc n) b c [] q = absurd (omega arith)
 operands_walk e (suc n) b c (x ∷ ops) q = move refl (operands_walk e n x c ops (omega arith))
 
 -- a legal command is accepted
-known_accepted : (k : Command) (c : Context) (b : ℕ) (o : Opening) → o ≡ Known k → legal k.needs c ≡ true → opened o c b ≡ Accepted (going k.change (count k.operands c) b c)
+known_accepted : (k : Command) (c : Context) (b : ℕ) (o : Opening) → o ≡ Known k → legal k.needs c ≡ true → opened o c b ≡ Ok (going k.change (count k.operands c) b c)
 known_accepted k c b o e l =
     ap (λ (x : Opening). opened x c b) e
-    ∙ ap (λ (t : Bool). cond t (Accepted (going k.change (count k.operands c) b c)) (Rejected (code_for k.needs c))) l
+    ∙ ap (λ (t : Bool). cond t (Ok (going k.change (count k.operands c) b c)) (Err (code_for k.needs c))) l
 
-pub opened_1d : (c : Context) → scan (between c) 0x1D ≡ Accepted (record { context = c; place = Extended })
+pub opened_1d : (c : Context) → scan (between c) 0x1D ≡ Ok (record { context = c; place = Extended })
 unfolding opening_of
 opened_1d c = refl
 
@@ -70,26 +71,26 @@ going_rest : (e : ContextChange) (n b : ℕ) (c : Context) (bs : List ℕ) (d : 
 going_rest e zero b c bs d (xs, its, j) = ([], xs, refl, its, j)
 going_rest e (suc n) b c bs d (x, r, g, q) = (x ∷ g.0, g.1, ap suc g.2, g.3, ap (λ (l : List ℕ). x ∷ l) g.4 ∙ q)
 
-pub accepted : {g h : Scanner} → Accepted g ≡ Accepted h → h ≡ g
+pub accepted : {g h : Scanner} → ◌≡◌ {A = Result Scanner ℕ} (Ok g) (Ok h) → h ≡ g
 accepted e = cc
 
-pub never_accepted {ℓ} : {A : Type ℓ} {w : ℕ} {h : Scanner} → Rejected w ≡ Accepted h → A
+pub never_accepted {ℓ} : {A : Type ℓ} {w : ℕ} {h : Scanner} → ◌≡◌ {A = Result Scanner ℕ} (Err w) (Ok h) → A
 never_accepted e = let z : ◌≡◌ {A = ℕ} 0 1 = cc in absurd (omega arith)
 
 -- a command that was accepted was legal, and its operands follow
-known_rest : (k : Command) (c : Context) (b : ℕ) (bs : List ℕ) (d : Context) (h : Scanner) → b ≡ k.code → opened (Known k) c b ≡ Accepted h → RestOf h bs d
+known_rest : (k : Command) (c : Context) (b : ℕ) (bs : List ℕ) (d : Context) (h : Scanner) → b ≡ k.code → opened (Known k) c b ≡ Ok h → RestOf h bs d
     → (legal k.needs c ≡ true) × Operating k.change (count k.operands c) k.code c bs d
 known_rest k c b bs d h e p r = go (legal k.needs c) refl p
   where
-    go : (t : Bool) → legal k.needs c ≡ t → cond t (Accepted (going k.change (count k.operands c) b c)) (Rejected (code_for k.needs c)) ≡ Accepted h
+    go : (t : Bool) → legal k.needs c ≡ t → cond t (Ok (going k.change (count k.operands c) b c)) (Err (code_for k.needs c)) ≡ Ok h
         → (legal k.needs c ≡ true) × Operating k.change (count k.operands c) k.code c bs d
     go true q p = (q, subst (λ (a : ℕ). Operating k.change (count k.operands c) a c bs d) e (going_rest k.change _ b c bs d (subst (λ (g : Scanner). RestOf g bs d) (accepted p) r)))
     go false q p = never_accepted p
 
-rest_step : (p : Place) (c : Context) (b : ℕ) (bs : List ℕ) (d : Context) (h : Scanner) → scan_at p c b ≡ Accepted h → RestOf h bs d → Rest p c (b ∷ bs) d
+rest_step : (p : Place) (c : Context) (b : ℕ) (bs : List ℕ) (d : Context) (h : Scanner) → scan_at p c b ≡ Ok h → RestOf h bs d → Rest p c (b ∷ bs) d
 rest_step Between c b bs d h e r = go (opening_of b) refl e
   where
-    go : (o : Opening) → opening_of b ≡ o → opened o c b ≡ Accepted h → Rest Between c (b ∷ bs) d
+    go : (o : Opening) → opening_of b ≡ o → opened o c b ≡ Ok h → Rest Between c (b ∷ bs) d
     go Unknown q p = never_accepted p
     go (Known k) q p =
         let m = opening_known b k q in
@@ -100,7 +101,7 @@ rest_step Between c b bs d h e r = go (opening_of b) refl e
         (r'.0, r'.1, r'.2 ∙ ap (λ (a : ℕ). a ∷ bs) (sym (opening_extension b q)))
 rest_step Extended c b bs d h e r = go (extension_of b) refl e
   where
-    go : (o : Opening) → extension_of b ≡ o → opened o c b ≡ Accepted h → Rest Extended c (b ∷ bs) d
+    go : (o : Opening) → extension_of b ≡ o → opened o c b ≡ Ok h → Rest Extended c (b ∷ bs) d
     go Unknown q p = never_accepted p
     go (Known k) q p =
         let m = extension_known b k q in

@@ -1,14 +1,14 @@
 -- For whoever writes a command stream: where the bytes and line faults so far lead, and how many operands a command then has.
-use Rattle.std.specs.Prelude.{ℕ, ◌≡◌, Bool, true, false, cond, List, [], ◌∷◌}
+use Rattle.std.specs.Prelude.{ℕ, ◌≡◌, Bool, true, false, cond, List, [], ◌∷◌, Result, Ok, Err}
 use Rattle.grammar.specs.Grammar.{Context, count}
-use Rattle.grammar.specs.Scanner.{Place, Between, Extended, Inside, Scanner, Scanned, Accepted, Rejected, Opening, Unknown, Known, Extension, opening_of, extension_of, between, scan}
+use Rattle.grammar.specs.Scanner.{Place, Between, Extended, Inside, Scanner, Opening, Unknown, Known, Extension, opening_of, extension_of, between, scan}
 use Rattle.grammar.specs.Machines.{Machine, Call, not_refused, final, bytes}
 pub use Rattle.grammar.specs.declared.following.Stream.{Stream}
 
 -- a rejected byte leaves everything but ERROR as it is (01, "Registers and common commands"), and so where the bytes lead
-abbrev pub scanner_after : Scanner → Scanned → Scanner
-scanner_after g (Accepted h) = h
-scanner_after g (Rejected w) = g
+abbrev pub scanner_after : Scanner → Result Scanner ℕ → Scanner
+scanner_after g (Ok h) = h
+scanner_after g (Err w) = g
 
 unfoldable pub followed : Scanner → List ℕ → Scanner
 followed g [] = g

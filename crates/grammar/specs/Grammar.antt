@@ -1,10 +1,14 @@
 -- The grammar of command streams (01, "Grammar"), written without the bridge. Bytes are numbers. Interface, context and its change are
 -- declared in src/lib.rt, each with 01's words.
-use Rattle.std.specs.Prelude.{ℕ, ◌<◌, ◌≡◌, Bool, true, false, ◌&&◌, eqb, length}
+use Rattle.std.specs.Prelude.{ℕ, ◌<◌, ◌≡◌, Bool, true, false, ◌&&◌, length, Some}
+use Rattle.std.specs.Option.{option_eq}
+use Rattle.std.specs.declared.option.Option.TheVariants as option
+use denote.Enum.Bare.{sameb}
 use mathlib.Core.List.{List, [], ◌∷◌, ◌++◌, Memᴰ, map}
 use Rattle.packet.specs.Packet.{width, size_of, packet_bytes}
+use Rattle.grammar.specs.contracts.Interface.{the_type}
 pub use Rattle.grammar.specs.declared.Interface.{Interface}
-pub use Rattle.grammar.specs.declared.Interface.TheVariants.{NoInterface, I2C, SPI, OneWire}
+pub use Rattle.grammar.specs.declared.Interface.TheVariants.{I2C, SPI, OneWire}
 pub use Rattle.grammar.specs.declared.Context.{Context}
 pub use Rattle.grammar.specs.declared.ContextChange.{ContextChange}
 pub use Rattle.grammar.specs.declared.ContextChange.TheVariants.{Keep, Clear, Select, Configure, Resize}
@@ -89,15 +93,12 @@ extended_commands =
 
 -- WHAT THE ROWS SAY
 
--- an interface's number: the command that selects it, or 0 for none
-abbrev pub interface_number : Interface → ℕ
-interface_number NoInterface = 0x00
-interface_number I2C = 0x01
-interface_number SPI = 0x02
-interface_number OneWire = 0x03
+-- whether two interfaces are one
+abbrev pub is_same : Interface → Interface → Bool
+is_same i j = sameb the_type i j
 
 abbrev pub selected : Interface → Context → Bool
-selected i c = eqb (interface_number c.interface) (interface_number i)
+selected i c = option_eq is_same c.interface (Some i)
 
 -- "a command legal in its context (common, or of its interface)"
 abbrev pub legal : Needs → Context → Bool
@@ -114,14 +115,14 @@ count Packet c = packet_bytes c.bits
 
 -- "none, unconfigured, N = 1"
 abbrev pub cleared_context : Context
-cleared_context = record { interface = NoInterface; configured = false; bits = 1 }
+cleared_context = record { interface = option.None; configured = false; bits = 1 }
 
 -- the context after an item whose last byte is b: "00 clears the context to none, unconfigured, N = 1; 01 to 03 change the
 -- interface; 40 configures; 42 sets N. Nothing else changes it."
 abbrev pub context_after : ContextChange → ℕ → Context → Context
 context_after Keep b c = c
 context_after Clear b c = cleared_context
-context_after (Select i) b c = record { interface = i; configured = c.configured; bits = c.bits }
+context_after (Select i) b c = record { interface = Some i; configured = c.configured; bits = c.bits }
 context_after Configure b c = record { interface = c.interface; configured = true; bits = c.bits }
 context_after Resize b c = record { interface = c.interface; configured = c.configured; bits = size_of width b }
 

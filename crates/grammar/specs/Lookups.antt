@@ -1,7 +1,7 @@
 -- For the contracts of private functions alone, which look a byte up without building its row: no statement speaks of these.
-use Rattle.std.specs.Prelude.{ℕ, Bool, true, false, eqb}
+use Rattle.std.specs.Prelude.{ℕ, Bool, true, false}
 use Rattle.codes.specs.Codes.{unknown_command}
-use Rattle.grammar.specs.Grammar.{Interface, SPI, Context, Needs, Common, Selected, Configured, ContextChange, Keep, interface_number, legal}
+use Rattle.grammar.specs.Grammar.{Interface, SPI, Context, Needs, Common, Selected, Configured, ContextChange, Keep, is_same, legal}
 use Rattle.grammar.specs.WrongCode.{code_for}
 use Rattle.grammar.specs.Scanner.{Opening, Unknown, Known, Extension}
 
@@ -14,8 +14,8 @@ accepts Extension c = true
 -- whether it is a command of an interface
 abbrev pub is_needed : Interface → Needs → Bool
 is_needed i Common = false
-is_needed i (Selected j) = eqb (interface_number i) (interface_number j)
-is_needed i Configured = eqb (interface_number i) (interface_number SPI)
+is_needed i (Selected j) = is_same i j
+is_needed i Configured = is_same i SPI
 
 abbrev pub is_of : Interface → Opening → Bool
 is_of i Unknown = false

@@ -1,14 +1,12 @@
 -- A scanner that reads a command stream byte by byte: a device of proof and the judge's definition. That it decides the
 -- grammar is a theorem (proofs/Decides.antt, `decides`).
-use Rattle.std.specs.Prelude.{ℕ, zero, suc, cond, List, [], ◌∷◌, eqb}
+use Rattle.std.specs.Prelude.{ℕ, zero, suc, cond, List, [], ◌∷◌, eqb, Result, Ok, Err}
 use Rattle.codes.specs.Codes.{unknown_command}
 use Rattle.grammar.specs.Grammar.{Context, ContextChange, Command, commands, extended_commands, legal, count, context_after}
 use Rattle.grammar.specs.WrongCode.{code_for}
 pub use Rattle.grammar.specs.declared.Place.{Place}
 pub use Rattle.grammar.specs.declared.Place.TheVariants.{Between, Extended, Inside}
 pub use Rattle.grammar.specs.declared.Scanner.{Scanner}
-pub use Rattle.grammar.specs.declared.Scanned.{Scanned}
-pub use Rattle.grammar.specs.declared.Scanned.TheVariants.{Accepted, Rejected}
 
 abbrev pub between : Context → Scanner
 between c = record { context = c; place = Between }
@@ -38,17 +36,17 @@ abbrev pub going : ContextChange → ℕ → ℕ → Context → Scanner
 going e zero b c = between (context_after e b c)
 going e (suc n) b c = record { context = c; place = Inside e n }
 
-abbrev pub opened : Opening → Context → ℕ → Scanned
-opened Unknown c b = Rejected unknown_command
-opened (Known k) c b = cond (legal k.needs c) (Accepted (going k.change (count k.operands c) b c)) (Rejected (code_for k.needs c))
-opened Extension c b = Accepted (record { context = c; place = Extended })
+abbrev pub opened : Opening → Context → ℕ → Result Scanner ℕ
+opened Unknown c b = Err unknown_command
+opened (Known k) c b = cond (legal k.needs c) (Ok (going k.change (count k.operands c) b c)) (Err (code_for k.needs c))
+opened Extension c b = Ok (record { context = c; place = Extended })
 
-abbrev pub scan_at : Place → Context → ℕ → Scanned
+abbrev pub scan_at : Place → Context → ℕ → Result Scanner ℕ
 scan_at Between c b = opened (opening_of b) c b
 scan_at Extended c b = opened (extension_of b) c b
-scan_at (Inside e n) c b = Accepted (going e n b c)
+scan_at (Inside e n) c b = Ok (going e n b c)
 
-abbrev pub scan : Scanner → ℕ → Scanned
+abbrev pub scan : Scanner → ℕ → Result Scanner ℕ
 scan g b = scan_at g.place g.context b
 
 -- MANY BYTES: where the scanner stands after them, or the first rejected place and the code returned there
@@ -60,9 +58,9 @@ abbrev pub later : Course → Course
 later (through g) = through g
 later (rejected_at k w) = rejected_at (suc k) w
 
-abbrev pub resume : Scanned → (Scanner → Course) → Course
-resume (Accepted g) f = later (f g)
-resume (Rejected w) f = rejected_at zero w
+abbrev pub resume : Result Scanner ℕ → (Scanner → Course) → Course
+resume (Ok g) f = later (f g)
+resume (Err w) f = rejected_at zero w
 
 abbrev pub scan_all : Scanner → List ℕ → Course
 scan_all g [] = through g

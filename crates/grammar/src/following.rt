@@ -4,7 +4,7 @@ ghost use Rattle.grammar.specs.Grammar.{factory_context};
 ghost use Rattle.grammar.specs.Scanner.{scan};
 ghost use Rattle.grammar.specs.Following.{scanner_after, followed, undropped, undisturbed, is_between, after_fault, after_bytes, operands_in};
 
-use crate::{Context, Place, Scanned, Scanner, rows, scanning};
+use crate::{Context, Place, Scanner, rows, scanning};
 
 // Where a stream stands: the scanner of its bytes, and whether the next one is dropped.
 #[derive(Clone, Copy)]
@@ -17,45 +17,34 @@ pub struct Stream {
 pub fn start() -> Stream
     ensures { result ≡ undisturbed factory_context }
 {
-    let context = crate::cleared_context();
-    Stream {
-        scanner: Scanner {
-            context,
-            place: Place::Between,
-        },
-        drop: false,
-    }
+    undropped(Scanner {
+        context: crate::cleared_context(),
+        place: Place::Between,
+    })
 }
 
 // Whether an item may begin at a place.
 fn is_between(p: Place) -> bool
     ensures { result ≡ is_between p }
 {
-    match p {
-        Place::Between => true,
-        Place::Extended => false,
-        Place::Inside(_, _) => false,
-    }
+    matches!(p, Place::Between)
 }
 
 // Where a stream stands after a line fault.
 pub fn after_fault(s: Stream) -> Stream
     ensures { result ≡ after_fault s }
 {
-    let scanner = s.scanner;
-    let place = scanner.place;
-    let drop = is_between(place);
-    Stream { scanner, drop }
+    Stream {
+        scanner: s.scanner,
+        drop: is_between(s.scanner.place),
+    }
 }
 
 // Where a scanner stands after a byte; one that is rejected leaves it where it is.
 fn scanner_after(g: Scanner, b: u8) -> Scanner
     ensures { result ≡ scanner_after g (scan g b) }
 {
-    let Scanned::Accepted(h) = scanning::scan_byte(g, b) else {
-        return g;
-    };
-    h
+    scanning::scan_byte(g, b).unwrap_or(g)
 }
 
 // Where a scanner stands after bytes.
@@ -63,10 +52,8 @@ fn follow(from: Scanner, bytes: &[u8]) -> Scanner
     ensures { result ≡ followed from bytes.now }
 {
     let mut g = from;
-    let mut i = 0;
-    while i < bytes.len() {
-        g = scanner_after(g, bytes[i]);
-        i += 1;
+    for b in bytes {
+        g = scanner_after(g, *b);
     }
     g
 }
@@ -85,14 +72,11 @@ fn undropped(scanner: Scanner) -> Stream
 pub fn after_bytes(s: Stream, bytes: &[u8]) -> Stream
     ensures { result ≡ after_bytes s bytes.now }
 {
-    if bytes.len() == 0 {
-        return s;
+    match bytes {
+        [] => s,
+        [_, rest @ ..] if s.drop => undropped(follow(s.scanner, rest)),
+        _ => undropped(follow(s.scanner, bytes)),
     }
-    let g = s.scanner;
-    if s.drop {
-        return undropped(follow(g, &bytes[1..]));
-    }
-    undropped(follow(g, bytes))
 }
 
 // How many operands a byte has in a context, after 1D or between items.

@@ -1,6 +1,6 @@
-// What the command list says of a byte: after 1D, where `extended` is true, and between items.
+// What the command list says of a byte: after 1D, where `extended` is true, and between items. The flag stays beside the byte, since the
+// judge's loop and the script's rows hold it so, and an enum of both would be made from it at each of their calls.
 ghost use Rattle.std.specs.Prelude.{◌≡◌};
-ghost use Rattle.grammar.specs.Grammar.{interface_number, selected};
 ghost use Rattle.grammar.specs.Scanner.{opening_of};
 ghost use Rattle.grammar.specs.Following.{opening_in, operands_in};
 ghost use Rattle.grammar.specs.Lookups.{accepts, is_of, needs_configured, code_of, change_of};
@@ -9,75 +9,59 @@ use crate::{Context, ContextChange, Interface};
 use codes::{NO_CONFIGURATION, UNKNOWN_COMMAND, WRONG_INTERFACE};
 
 // Whether a byte is a command of an interface.
+#[tactic(auto, using(std::proofs::lemmas::Bool::Decides::nat_tests, crate::proofs::Bytes::is_of_byte))]
 fn is_of(i: Interface, b: u8) -> bool
     ensures { result ≡ is_of i (opening_of b) }
 {
     match i {
-        Interface::NoInterface => false,
-        Interface::I2C => (0x20 <= b) & (b < 0x28),
-        Interface::SPI => (0x40 <= b) & (b < 0x4D),
-        Interface::OneWire => (0x60 <= b) & (b < 0x6B),
+        Interface::I2C => matches!(b, 0x20..=0x27),
+        Interface::SPI => matches!(b, 0x40..=0x4C),
+        Interface::OneWire => matches!(b, 0x60..=0x6A),
     }
 }
 
+#[tactic(auto, using(std::proofs::lemmas::Bool::Decides::nat_tests, crate::proofs::Bytes::needs_configured_byte))]
 fn needs_configured(b: u8) -> bool
     ensures { result ≡ needs_configured (opening_of b) }
 {
-    (b == 0x41) | (b == 0x44) | (b == 0x46) | (b == 0x4B) | (b == 0x4C)
+    matches!(b, 0x41 | 0x44 | 0x46 | 0x4B | 0x4C)
 }
 
 // Whether a byte may begin an item: 00 to 1E are common, the others are the interface's.
+#[tactic(auto, using(std::proofs::lemmas::Bool::Decides::nat_tests, crate::proofs::Bytes::begins_byte))]
 fn may_begin(c: Context, b: u8) -> bool
     ensures { result ≡ accepts (opening_of b) c }
 {
     if b < 0x1F {
         return true;
     }
-    let at = c.interface;
-    match at {
-        Interface::NoInterface => false,
-        Interface::I2C => is_of(Interface::I2C, b),
-        Interface::SPI => is_of(Interface::SPI, b) & (!needs_configured(b) | c.configured),
-        Interface::OneWire => is_of(Interface::OneWire, b),
+    match c.interface {
+        None => false,
+        Some(Interface::SPI) if needs_configured(b) => c.configured,
+        Some(i) => is_of(i, b),
     }
 }
 
 // Whether a byte is legal in a context: 01's "common, or of its interface", and configured where it must be.
+#[tactic(auto, using(std::proofs::lemmas::Bool::Decides::nat_tests, crate::proofs::Bytes::listed_byte))]
 pub(crate) fn is_legal(c: Context, b: u8, extended: bool) -> bool
     ensures { result ≡ accepts (opening_in b extended) c }
 {
     if extended {
-        return ((0x01 <= b) & (b < 0x04)) | ((0x08 <= b) & (b < 0x10));
+        return matches!(b, 0x01..=0x03 | 0x08..=0x0F);
     }
     may_begin(c, b)
 }
 
-fn interface_number(i: Interface) -> u8
-    ensures { result ≡ interface_number i }
-{
-    match i {
-        Interface::NoInterface => 0x00,
-        Interface::I2C => 0x01,
-        Interface::SPI => 0x02,
-        Interface::OneWire => 0x03,
-    }
-}
-
-fn is_selected(i: Interface, c: Context) -> bool
-    ensures { result ≡ selected i c }
-{
-    let at = c.interface;
-    interface_number(at) == interface_number(i)
-}
-
 // The code that the device returns for a byte that is not legal.
+#[tactic(auto, using(std::proofs::lemmas::Bool::Decides::nat_tests, crate::proofs::Bytes::code_byte, crate::proofs::Bytes::unknown_byte))]
 pub(crate) fn code_for(c: Context, b: u8, extended: bool) -> u8
     ensures { result ≡ code_of (opening_in b extended) c }
 {
     if extended {
         return UNKNOWN_COMMAND;
     }
-    if needs_configured(b) & is_selected(Interface::SPI, c) {
+    if needs_configured(b) & (c.interface == Some(Interface::SPI)) {
         return NO_CONFIGURATION;
     }
     if is_of(Interface::I2C, b) | is_of(Interface::SPI, b) | is_of(Interface::OneWire, b) {
@@ -87,6 +71,7 @@ pub(crate) fn code_for(c: Context, b: u8, extended: bool) -> u8
 }
 
 // How many operands a byte has in a context; 1D's is its extended byte.
+#[tactic(auto, using(std::proofs::lemmas::Bool::Decides::nat_tests, crate::proofs::Bytes::operands_byte, crate::proofs::Bytes::loads_byte))]
 pub(crate) fn operands_of(c: Context, b: u8, extended: bool) -> u8
     ensures { result ≡ operands_in c b extended }
 {
@@ -106,6 +91,7 @@ pub(crate) fn operands_of(c: Context, b: u8, extended: bool) -> u8
 }
 
 // What a byte's item does to the context.
+#[tactic(auto, using(std::proofs::lemmas::Bool::Decides::nat_tests, crate::proofs::Bytes::change_byte, crate::proofs::Bytes::kept_byte))]
 pub(crate) fn change_of(b: u8, extended: bool) -> ContextChange
     ensures { result ≡ change_of (opening_in b extended) }
 {

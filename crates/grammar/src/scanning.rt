@@ -4,30 +4,26 @@ ghost use Rattle.grammar.specs.Grammar.{context_after};
 ghost use Rattle.grammar.specs.Scanner.{going, opened, scan};
 ghost use Rattle.grammar.specs.Following.{opening_in};
 
-use crate::{Context, ContextChange, Place, Scanned, Scanner, rows};
+use crate::{Context, ContextChange, Place, Scanner, rows};
 
 // The context after an item whose last byte is b.
 pub(crate) fn context_after(e: ContextChange, b: u8, c: Context) -> Context
     ensures { result ≡ context_after e b c }
 {
-    let i = c.interface;
     match e {
         ContextChange::Keep => c,
         ContextChange::Clear => crate::cleared_context(),
-        ContextChange::Select(j) => Context {
-            interface: j,
-            configured: c.configured,
-            bits: c.bits,
+        ContextChange::Select(i) => Context {
+            interface: Some(i),
+            ..c
         },
         ContextChange::Configure => Context {
-            interface: i,
             configured: true,
-            bits: c.bits,
+            ..c
         },
         ContextChange::Resize => Context {
-            interface: i,
-            configured: c.configured,
             bits: packet::size_of(b),
+            ..c
         },
     }
 }
@@ -37,9 +33,8 @@ fn advance(e: ContextChange, n: u8, b: u8, c: Context) -> Scanner
     ensures { result ≡ going e n b c }
 {
     if n == 0 {
-        let d = context_after(e, b, c);
         return Scanner {
-            context: d,
+            context: context_after(e, b, c),
             place: Place::Between,
         };
     }
@@ -49,32 +44,31 @@ fn advance(e: ContextChange, n: u8, b: u8, c: Context) -> Scanner
     }
 }
 
-fn open_item(c: Context, b: u8, extended: bool) -> Scanned
+fn open_item(c: Context, b: u8, extended: bool) -> Result<Scanner, u8>
     ensures { result ≡ opened (opening_in b extended) c b }
 {
     if !rows::is_legal(c, b, extended) {
-        return Scanned::Rejected(rows::code_for(c, b, extended));
+        return Err(rows::code_for(c, b, extended));
     }
     if (b == 0x1D) & !extended {
-        return Scanned::Accepted(Scanner {
+        return Ok(Scanner {
             context: c,
             place: Place::Extended,
         });
     }
     let n = rows::operands_of(c, b, extended);
     let e = rows::change_of(b, extended);
-    Scanned::Accepted(advance(e, n, b, c))
+    Ok(advance(e, n, b, c))
 }
 
 // What the scanner makes of a byte.
-pub(crate) fn scan_byte(g: Scanner, b: u8) -> Scanned
+pub(crate) fn scan_byte(g: Scanner, b: u8) -> Result<Scanner, u8>
     ensures { result ≡ scan g b }
 {
     let c = g.context;
-    let p = g.place;
-    match p {
+    match g.place {
         Place::Between => open_item(c, b, false),
         Place::Extended => open_item(c, b, true),
-        Place::Inside(e, n) => Scanned::Accepted(advance(e, n, b, c)),
+        Place::Inside(e, n) => Ok(advance(e, n, b, c)),
     }
 }

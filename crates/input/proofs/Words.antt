@@ -1,93 +1,61 @@
--- A list of words, word by word: the first ends at the first space, and the others stand after it. Assumes nothing.
-use Prim.Native.Nat.{ℕ, suc, ◌+◌, ◌-◌, ◌≤◌, ◌<◌}
-use mathlib.Core.Path.{◌≡◌, refl, ap, ◌∙◌}
-use mathlib.Core.Bool.{Bool, true, false}
-use mathlib.Core.List.{List, [], ◌∷◌}
-use mathlib.Core.Logic.{◌⊎◌, inl, inr}
+-- What std cuts at spaces are the words of a list that is not empty, less the space after its last one. Assumes nothing.
+use Prim.Native.Nat.{ℕ, ◌<◌}
+use mathlib.Core.Path.{◌≡◌, refl, ap, ◌∙◌, sym}
+use mathlib.Core.Bool.{Bool, true, cond}
+use mathlib.Core.List.{List, [], ◌∷◌, ◌++◌}
+use mathlib.Core.Logic.{⊎_elim, inl, inr}
 use native.Mathlib.Nat.{not-suc-le-zero}
 use native.Mathlib.Omega.{arith}
 use borrow.Author.Tests.{ne_eqb}
-use Rattle.std.proofs.Common.{eq-eqb, add-one}
+use denote.Ref.{Bor}
 use lib.Dec.{eqb}
-use lib.ListN.{length, take, drop, get_or, length-drop, drop_of_length-le}
-use lib.Seq.{drop-cons, drop-drop}
-use Rattle.input.specs.Arguments.{with_first, split_at_spaces, index_of, Among}
+use lib.ListN.{length}
+use Rattle.std.specs.Bool.{Decides}
+use Rattle.std.specs.List.{list_any, onto_first, slice_split}
+use Rattle.std.specs.Option.{MatchOption, unwrap_or}
+use Rattle.std.specs.Prelude.{Option, Some, None}
+use Rattle.std.proofs.lemmas.Bool.{or_cases, or_left, or_right}
+use Rattle.input.specs.Arguments.{split_at_spaces, Among}
 
-abbrev FirstWord : List ℕ → Type 0
-FirstWord l = split_at_spaces l ≡ take (index_of 0x20 l) l ∷ split_at_spaces (drop (suc (index_of 0x20 l)) l)
+abbrev pub parts : List ℕ → List (List ℕ)
+parts = slice_split (λ b. eqb b 0x20)
 
-one_byte : (x : ℕ) (b : Bool) → eqb x 0x20 ≡ b → FirstWord (x ∷ [])
-unfolding split_at_spaces with_first index_of
-one_byte x true e = rw e refl
-one_byte x false e = rw e refl
+-- a byte in front of what comes out the same in both ways
+one_more : (x : ℕ) (vs ws : List (List ℕ)) → vs ≡ ws → cond (eqb x 0x20) ([] ∷ vs) (onto_first x vs) ≡ cond (eqb x 0x20) ([] ∷ ws) (onto_first x ws)
+one_more x vs ws e = ap (λ us. cond (eqb x 0x20) ([] ∷ us) (onto_first x us)) e
 
-one_more : (x : ℕ) (l : List ℕ) → FirstWord l → (b : Bool) → eqb x 0x20 ≡ b → FirstWord (x ∷ l)
-unfolding split_at_spaces with_first index_of
-one_more x l f true e = rw e refl
-one_more x l f false e = rw (e, f) refl
+ends_in_space : (l : List ℕ) → split_at_spaces (l ++ 0x20 ∷ []) ≡ parts l
+unfolding split_at_spaces
+ends_in_space [] = refl
+ends_in_space (x ∷ l) = one_more x (split_at_spaces (l ++ 0x20 ∷ [])) (parts l) (ends_in_space l)
 
-first_word : (x : ℕ) (xs : List ℕ) → FirstWord (x ∷ xs)
-first_word x [] = one_byte x (eqb x 0x20) refl
-first_word x (y ∷ ys) = one_more x (y ∷ ys) (first_word y ys) (eqb x 0x20) refl
+ends_in_word : (x : ℕ) (l : List ℕ) → ((front : List ℕ) → x ∷ l ≡ front ++ 0x20 ∷ [] → ⊥) → split_at_spaces (x ∷ l) ≡ parts (x ∷ l)
+unfolding split_at_spaces
+ends_in_word x [] n = rw (ne_eqb x 0x20 (λ p. n [] (ap (λ v. v ∷ []) p))) refl
+ends_in_word x (y ∷ l) n = one_more x (split_at_spaces (y ∷ l)) (parts (y ∷ l)) (ends_in_word y l (λ front p. n (x ∷ front) (ap (λ v. x ∷ v) p)))
 
-words_first : (l : List ℕ) → 0 < length l → FirstWord l
-words_first [] h = absurd (not-suc-le-zero h)
-words_first (x ∷ xs) h = first_word x xs
+words_without : (l : List ℕ) → 0 < length l → ((front : List ℕ) → l ≡ front ++ 0x20 ∷ [] → ⊥) → parts l ≡ split_at_spaces l
+words_without [] h n = absurd (not-suc-le-zero h)
+words_without (x ∷ l) h n = sym (ends_in_word x l n)
 
--- how far a word goes that starts at a place
-abbrev pub reach : List ℕ → ℕ → ℕ
-reach l at = index_of 0x20 (drop at l)
+-- the words of a list, once the space at its end is stripped
+pub words_stripped : (l : Bor (List ℕ)) (r : Option (Bor (List ℕ))) → MatchOption r ((front : List ℕ) → l.now ≡ front ++ 0x20 ∷ [] → ⊥) (λ x. l.now ≡ x.now ++ 0x20 ∷ []) → 0 < length l.now → parts (unwrap_or r l).now ≡ split_at_spaces l.now
+words_stripped l None n h = words_without l.now h n
+words_stripped l (Some x) e h = sym (ap split_at_spaces e ∙ ends_in_space x.now)
 
--- the word at a place within the list, and the words after it
-pub words_at : (l : List ℕ) (at end : ℕ) → at < length l → end ≡ at + reach l at → split_at_spaces (drop at l) ≡ take (end - at) (drop at l) ∷ split_at_spaces (drop (end + 1) l)
-words_at l at end h e =
-    words_first (drop at l) (rw length-drop (omega arith))
-    ∙ ap (λ (n : ℕ). take n (drop at l) ∷ split_at_spaces (drop (suc n) (drop at l))) size
-    ∙ ap (λ (r : List ℕ). take (end - at) (drop at l) ∷ split_at_spaces r) (drop-drop (suc (end - at)) at l ∙ ap (λ (n : ℕ). drop n l) after)
-  where
-    size : reach l at ≡ end - at
-    size = omega (arith, e)
-
-    after : at + suc (end - at) ≡ end + 1
-    after = omega (arith, e)
-
--- THE TURN of a search for a byte: it is the one at the place, or, if it is not, one of those after it
-byte_here : (b x : ℕ) (l : List ℕ) → x ≡ b → index_of b (x ∷ l) ≡ 0
-unfolding index_of
-byte_here b x l e = rw (eq-eqb x b e) refl
-
-byte_later : (b x : ℕ) (l : List ℕ) → eqb x b ≡ false → index_of b (x ∷ l) ≡ suc (index_of b l)
-unfolding index_of
-byte_later b x l e = rw e refl
-
-pub place_here : (b : ℕ) (l : List ℕ) (i : ℕ) → i < length l → get_or l i 0 ≡ b → index_of b (drop i l) ≡ 0
-place_here b l i h e = rw (drop-cons l i 0) (byte_here b (get_or l i 0) (drop (suc i) l) e)
-
-pub place_later : (b : ℕ) (l : List ℕ) (i : ℕ) → i < length l → (get_or l i 0 ≡ b → ⊥) → index_of b (drop i l) ≡ suc (index_of b (drop (i + 1) l))
-place_later b l i h e = rw (add-one, drop-cons l i 0) (byte_later b (get_or l i 0) (drop (suc i) l) (ne_eqb (get_or l i 0) b e))
-
-pub place_none : (b : ℕ) (l : List ℕ) (i : ℕ) → length l ≤ i → index_of b (drop i l) ≡ 0
-unfolding index_of
-place_none b l i h = rw (drop_of_length-le l h) refl
-
--- THE TURN of a search for a word: it is the one at the place, or, if it is not, one of those after it
-module _ (l w : List ℕ) (at end : ℕ) (h : at < length l) (e : end ≡ at + reach l at) where
-  pub among_here : take (end - at) (drop at l) ≡ w → Among w (split_at_spaces (drop at l))
+module _ (w : List ℕ) (test : List ℕ → Bool) (decides : (v : List ℕ) → Decides (test v) (v ≡ w)) where
+  pub among_from_any : (vs : List (List ℕ)) → list_any test vs ≡ true → Among w vs
   unfolding Among
-  among_here p = rw (words_at l at end h e) (inl p)
+  among_from_any [] e = absurd (cc e)
+  among_from_any (v ∷ vs) e = ⊎_elim (λ p. inl ((decides v).0 p)) (λ q. inr (among_from_any vs q)) (or_cases (test v) (list_any test vs) e)
 
-  pub among_later : Among w (split_at_spaces (drop (end + 1) l)) → Among w (split_at_spaces (drop at l))
+  pub any_from_among : (vs : List (List ℕ)) → Among w vs → list_any test vs ≡ true
   unfolding Among
-  among_later q = rw (words_at l at end h e) (inr q)
+  any_from_among [] a = absurd a
+  any_from_among (v ∷ vs) (inl p) = or_left (test v) (list_any test vs) ((decides v).1 p)
+  any_from_among (v ∷ vs) (inr q) = or_right (test v) (list_any test vs) (any_from_among vs q)
 
-  pub among_passed : (take (end - at) (drop at l) ≡ w → ⊥) → Among w (split_at_spaces (drop at l)) → Among w (split_at_spaces (drop (end + 1) l))
-  unfolding Among
-  among_passed n a = go (rw (words_at l at end h e) at a)
-    where
-      go : (take (end - at) (drop at l) ≡ w) ⊎ Among w (split_at_spaces (drop (end + 1) l)) → Among w (split_at_spaces (drop (end + 1) l))
-      go (inl p) = absurd (n p)
-      go (inr q) = q
-
-pub among_none : (l w : List ℕ) (at : ℕ) → length l ≤ at → Among w (split_at_spaces (drop at l)) → ⊥
+pub among_none : (w l : List ℕ) → length l ≡ 0 → Among w (split_at_spaces l) → ⊥
 unfolding Among split_at_spaces
-among_none l w at h a = rw (drop_of_length-le l h) at a
+among_none w [] e a = a
+among_none w (x ∷ l) e a = absurd (omega (arith, e))

@@ -1,148 +1,110 @@
 // The arguments of a program: options, which start with `-`, and at most one name of a file. What a word is by its bytes is proved. Which
 // words the arguments are, the contracts of the system's calls don't say, so a function that asks for them promises nothing of their bytes.
-ghost use Rattle.std.specs.Prelude.{◌≡◌, ◌+◌, ◌≤◌, length, drop};
-ghost use Rattle.io.specs.Counts.{IsPrefixLen};
-ghost use Rattle.input.specs.Arguments.{Among, split_at_spaces, index_of, Tells, is_option, IsKind};
+ghost use Rattle.std.specs.List.{slice_split};
+ghost use Rattle.std.specs.Prelude.{◌==◌, ◌≡◌, ◌<◌, ◌≤◌, ◌↔◌, length, IsTrue, not};
+ghost use Rattle.input.specs.Arguments.{Among, split_at_spaces, is_option, IsUnknown};
 
 use std::env::{Env, FillError};
+use streams::{complain, say};
 
-const STDOUT_FILENO: i32 = 1;
-
-const STDERR_FILENO: i32 = 2;
-
-// What an argument can be, beside a list of options.
-#[derive(Clone, Copy)]
-pub(crate) enum Kind {
-    Name,
-    Known,
-    Unknown,
-}
-
-// The place of the first such byte from a place on, or the end.
-fn find(bytes: &[u8], at: usize, byte: u8) -> usize
-    requires { at ≤ length bytes.now }
-    ensures place { result ≡ at + index_of byte (drop at bytes.now) }
-    ensures within { result ≤ length bytes.now }
+// A list of words, each one but the last followed by a space, with no space at its end: std's `split` would see an empty word after it.
+fn stripped(list: &[u8]) -> &[u8]
+    ensures { 0 < length list.now → slice_split (λ b. b == 0x20) result.now ≡ split_at_spaces list.now }
 {
-    let mut i = at;
-    while i < bytes.len() {
-        if bytes[i] == byte {
-            return i;
-        }
-        i += 1;
-    }
-    i
+    list.strip_suffix(b" ").unwrap_or(list)
 }
 
-// Whether a list of words, each one but the last followed by a space, has a word.
+// Whether such a list has a word. std's `split` of an empty list would give an empty word.
 fn has_word(list: &[u8], word: &[u8]) -> bool
-    ensures { Tells result (Among word.now (split_at_spaces list.now)) }
+    ensures { IsTrue result ↔ Among word.now (split_at_spaces list.now) }
 {
-    let mut at: usize = 0;
-    while at < list.len() {
-        let end = find(list, at, b' ');
-        if check::same(&list[at..end], word) {
-            return true;
-        }
-        at = end + 1;
-    }
-    false
+    !list.is_empty() && stripped(list).split(|b| *b == b' ').any(|w| w == word)
 }
 
 fn is_option(word: &[u8]) -> bool
     ensures { result ≡ is_option word.now }
 {
-    if 0 < word.len() {
-        return word[0] == b'-';
-    }
-    false
+    word.first() == Some(&b'-')
 }
 
-fn is_kind(word: &[u8], kind: Kind, options: &[u8]) -> bool
-    ensures { Tells result (IsKind kind options.now word.now) }
+pub(crate) fn is_name(word: &[u8]) -> bool
+    ensures { result ≡ not (is_option word.now) }
 {
-    match kind {
-        Kind::Name => !is_option(word),
-        Kind::Known => has_word(options, word),
-        Kind::Unknown => is_option(word) & !has_word(options, word),
-    }
+    !is_option(word)
 }
 
-// Puts an argument at the start of the buffer. One that is missing or too long counts as empty, which is a name.
-pub(crate) fn argument(rt: &impl Env, place: usize, word: &mut [u8]) -> usize
-    ensures { IsPrefixLen result word.new }
+// Whether a word looks like an option and is none of the program's.
+fn is_unknown(word: &[u8], options: &[u8]) -> bool
+    ensures { IsTrue result ↔ IsUnknown options.now word.now }
 {
-    match rt.arg(place, word) {
-        Ok(n) => n,
-        Err(_) => 0,
-    }
+    is_option(word) && !has_word(options, word)
 }
 
-fn is_kind_at(rt: &impl Env, place: usize, kind: Kind, options: &[u8]) -> bool {
-    let mut word = io::buffer();
-    let n = argument(rt, place, &mut word);
-    is_kind(&word[..n], kind, options)
+// Puts an argument at the start of the buffer and answers it. One that is missing or too long counts as empty, which is a name.
+pub(crate) fn argument<'a>(rt: &impl Env, place: usize, word: &'a mut [u8]) -> &'a [u8]
+    ensures { length result.now ≤ length word.old }
+{
+    let n = rt.arg(place, word).unwrap_or(0);
+    &word[..n]
 }
 
 // One that does not fit is given too.
-pub(crate) fn is_given(rt: &impl Env, place: usize) -> bool {
-    let mut word = [0u8; 1];
-    match rt.arg(place, &mut word) {
-        Ok(_) | Err(FillError::TooLong) => true,
-        Err(FillError::NotPresent) => false,
-    }
+fn is_given(rt: &impl Env, place: usize) -> bool {
+    !matches!(rt.arg(place, &mut [0u8; 1]), Err(FillError::NotPresent))
 }
 
-// The place of the first argument of a kind from a place on, or how many there are.
-pub(crate) fn first(rt: &impl Env, from: usize, kind: Kind, options: &[u8]) -> usize {
-    for i in from..usize::MAX {
-        if !is_given(rt, i) {
-            return i;
+fn is_at<F: Fn(&[u8]) -> bool>(rt: &impl Env, place: usize, meets: &F) -> bool
+    requires { F.IsAlwaysCallable meets.now }
+{
+    let mut word = io::buffer();
+    meets(argument(rt, place, &mut word))
+}
+
+// The place of the first argument from a place on that meets a test.
+pub(crate) fn first<F: Fn(&[u8]) -> bool>(rt: &impl Env, from: usize, meets: F) -> Option<usize>
+    requires { F.IsAlwaysCallable meets }
+{
+    for place in from..usize::MAX {
+        if !is_given(rt, place) {
+            return None;
         }
-        if is_kind_at(rt, i, kind, options) {
-            return i;
+        if is_at(rt, place, &meets) {
+            return Some(place);
         }
     }
-    usize::MAX
+    None
 }
 
 // Whether the program was started with an option. A contract could only speak of the arguments, so there is none.
 pub fn option(rt: &impl Env, name: &[u8]) -> bool {
-    is_given(rt, first(rt, 1, Kind::Known, name))
+    first(rt, 1, |word| has_word(name, word)).is_some()
 }
 
 // Says on standard error that an argument is not understood, and how the program is used.
 fn refuse(rt: &impl Env, place: usize, usage: &[u8]) {
     let mut word = io::buffer();
-    let n = argument(rt, place, &mut word);
-    io::write_all(STDERR_FILENO, &word[..n]);
-    io::write_all(STDERR_FILENO, b": unknown argument\n");
-    io::write_all(STDERR_FILENO, usage);
+    complain(argument(rt, place, &mut word));
+    complain(b": unknown argument\n");
+    complain(usage);
 }
 
 // The place of the first argument that is neither one of the options nor the first name.
-fn first_unknown(rt: &impl Env, options: &[u8]) -> usize {
-    let unknown = first(rt, 1, Kind::Unknown, options);
-    if is_given(rt, unknown) {
-        return unknown;
-    }
-    let name = first(rt, 1, Kind::Name, options);
-    if is_given(rt, name) {
-        return first(rt, name.saturating_add(1), Kind::Name, options);
-    }
-    name
+fn first_unknown(rt: &impl Env, options: &[u8]) -> Option<usize> {
+    first(rt, 1, |word| is_unknown(word, options)).or_else(|| {
+        let name = first(rt, 1, is_name)?;
+        first(rt, name.saturating_add(1), is_name)
+    })
 }
 
 // Whether the program is to go on: `--help` is answered with the usage, and an argument that is not known is refused. The options
 // beside `--help` are a list of words with a space between. A contract could only speak of the arguments, so there is none.
 pub fn goes_on(rt: &impl Env, usage: &[u8], options: &[u8]) -> bool {
     if option(rt, b"--help") {
-        io::write_all(STDOUT_FILENO, usage);
+        say(usage);
         return false;
     }
-    let unknown = first_unknown(rt, options);
-    if is_given(rt, unknown) {
-        refuse(rt, unknown, usage);
+    if let Some(place) = first_unknown(rt, options) {
+        refuse(rt, place, usage);
         return false;
     }
     true

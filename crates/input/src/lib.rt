@@ -3,61 +3,38 @@
 
 mod arguments;
 
-ghost use Rattle.input.specs.Input.{Counted};
+ghost use Rattle.std.specs.Prelude.{◌<◌, ◌≤◌, length, IfOk, IfSome};
 
-use arguments::Kind;
+use arguments::{argument, first, is_name};
 pub use arguments::{goes_on, option};
 use std::env::Env;
 use std::fs::{File, Files};
 use std::io::{Error, ErrorKind, Read};
 use std::rt::Runtime;
 
-const STDERR_FILENO: i32 = 2;
-
 // What the system says of a name that no buffer holds.
 const ENAMETOOLONG: i32 = 36;
 
-// The whole input, of so many bytes, or what a full buffer holds of it; or it could not be read.
-#[derive(Clone, Copy)]
-pub enum Input {
-    Whole(usize),
-    Failed,
-}
-
 // Says on standard error what failed and why. A contract could only speak of standard error, so there is none.
 pub fn fail(rt: &impl Eprint, what: &[u8], why: Error) {
-    io::write_all(STDERR_FILENO, what);
+    streams::complain(what);
     let _ = eprintln!(rt; ": {why}");
 }
 
-// Reads once from an open input, and says on standard error if it can't.
-fn read_named<R: Read>(rt: &impl Eprint, from: &mut R, name: &[u8], buf: &mut [u8]) -> Input
-    ensures { Counted result buf.new }
-{
-    match from.read(buf) {
-        Ok(n) => Input::Whole(n),
-        Err(why) => {
-            fail(rt, name, why);
-            Input::Failed
-        }
-    }
-}
-
-// Reads until the input ends or the buffer is full.
-fn read_whole<R: Read>(rt: &impl Eprint, from: &mut R, name: &[u8], buf: &mut [u8]) -> Input
-    ensures { Counted result buf.new }
+// Reads until the input ends or the buffer is full, and answers what was read, the front of the buffer. (No `for`: each read says how far
+// it got.)
+pub fn read_full<'a, R: Read>(from: &mut R, buf: &'a mut [u8]) -> Result<&'a [u8], Error>
+    ensures { IfOk result (λ front. length front.now ≤ length buf.old) }
 {
     let mut n: usize = 0;
     while n < buf.len() {
-        let Input::Whole(more) = read_named(rt, from, name, &mut buf[n..]) else {
-            return Input::Failed;
-        };
+        let more = from.read(&mut buf[n..])?;
         if more == 0 {
-            return Input::Whole(n);
+            break;
         }
         n += more;
     }
-    Input::Whole(n)
+    Ok(&buf[..n])
 }
 
 // A path is UTF-8 text.
@@ -68,64 +45,52 @@ fn open_path<R: Files>(rt: &R, name: &[u8]) -> Result<R::File, Error> {
     }
 }
 
-// Opens the file of a name, and says on standard error if it can't.
-fn open_named<R: Files + Eprint>(rt: &R, name: &[u8]) -> Option<R::File> {
-    match open_path(rt, name) {
-        Ok(file) => Some(file),
-        Err(why) => {
-            fail(rt, name, why);
+// Opens the file that the first argument names. If it can't, a line on standard error says why. Which file that is, only the system
+// knows, so there is no contract.
+pub fn open<R: Env + Files + Eprint>(rt: &R) -> Option<R::File> {
+    let mut word = io::buffer();
+    let name = argument(rt, 1, &mut word);
+    open_path(rt, name).map_err(|why| fail(rt, name, why)).ok()
+}
+
+// Reads the file of a name to the front of a buffer.
+fn read_file<'a, R: Files>(rt: &R, name: &[u8], buf: &'a mut [u8]) -> Result<&'a [u8], Error>
+    ensures { IfOk result (λ front. length front.now ≤ length buf.old) }
+{
+    read_full(&mut open_path(rt, name)?, buf)
+}
+
+// Reads the program's input to the front of a buffer, and answers that front: the whole input, or what a full buffer holds of it. If it
+// can't be opened or read, a line on standard error says why.
+pub fn read<'a>(rt: &impl Runtime, buf: &'a mut [u8]) -> Option<&'a [u8]>
+    ensures { IfSome result (λ input. length input.now ≤ length buf.old) }
+{
+    let Some(place) = first(rt, 1, is_name) else {
+        return read_full(&mut rt.reader(), buf)
+            .map_err(|why| fail(rt, b"standard input", why))
+            .ok();
+    };
+    let mut word = io::buffer();
+    match rt.arg(place, &mut word) {
+        Ok(n) => read_file(rt, &word[..n], buf)
+            .map_err(|why| fail(rt, &word[..n], why))
+            .ok(),
+        Err(_) => {
+            fail(rt, b"the argument", Error::from_raw_os_error(ENAMETOOLONG));
             None
         }
     }
 }
 
-// Opens the file that the first argument names. If it can't, a line on standard error says why. Which file that is, only the system
-// knows, so there is no contract.
-pub fn open<R: Env + Files + Eprint>(rt: &R) -> Option<R::File> {
-    let mut name = io::buffer();
-    let n = arguments::argument(rt, 1, &mut name);
-    open_named(rt, &name[..n])
-}
-
-// Reads the file of a name.
-fn read_file<R: Files + Eprint>(rt: &R, name: &[u8], buf: &mut [u8]) -> Input
-    ensures { Counted result buf.new }
-{
-    let Some(mut file) = open_named(rt, name) else {
-        return Input::Failed;
-    };
-    read_whole(rt, &mut file, name, buf)
-}
-
-// Reads the program's input to the front of a buffer. If it can't be opened or read, a line on standard error says why.
-pub fn read(rt: &impl Runtime, buf: &mut [u8]) -> Input
-    ensures { Counted result buf.new }
-{
-    let place = arguments::first(rt, 1, Kind::Name, b"");
-    if !arguments::is_given(rt, place) {
-        return read_whole(rt, &mut rt.reader(), b"standard input", buf);
-    }
-    let mut name = io::buffer();
-    match rt.arg(place, &mut name) {
-        Ok(n) => read_file(rt, &name[..n], buf),
-        Err(_) => {
-            fail(rt, b"the argument", Error::from_raw_os_error(ENAMETOOLONG));
-            Input::Failed
-        }
-    }
-}
-
 // Reads the program's input, which is to be shorter than the buffer. If it is not, the line given is written to standard error.
-pub fn read_shorter(rt: &impl Runtime, buf: &mut [u8], too_long: &[u8]) -> Input
-    ensures { Counted result buf.new }
+pub fn read_shorter<'a>(rt: &impl Runtime, buf: &'a mut [u8], too_long: &[u8]) -> Option<&'a [u8]>
+    ensures { IfSome result (λ input. length input.now < length buf.old) }
 {
-    let r = read(rt, buf);
-    let Input::Whole(n) = r else {
-        return Input::Failed;
-    };
-    if n == buf.len() {
-        io::write_all(STDERR_FILENO, too_long);
-        return Input::Failed;
+    let room = buf.len();
+    let input = read(rt, buf)?;
+    if input.len() == room {
+        streams::complain(too_long);
+        return None;
     }
-    Input::Whole(n)
+    Some(input)
 }

@@ -2,43 +2,30 @@
 // `open` or `wrong at K (CODE)` in a line.
 #![tactic(auto)]
 
-use bridge::Judgement;
 use grammar::Verdict;
-use input::Input;
 
-const STDOUT_FILENO: i32 = 1;
+const USAGE: &[u8] =
+    b"usage: judge [FILE]\nSays of the command bytes in FILE, or in standard input, whether they are whole, open or wrong.\n";
 
 fn say(v: Verdict) {
     let mut line = [0u8; verdicts::ROOM];
     let n = verdicts::put_verdict(&mut line, v);
-    io::write_all(STDOUT_FILENO, &line[..n]);
+    streams::say(&line[..n]);
 }
 
 // The factory start is in range and waits for nothing, so it is never refused.
 fn answer(bytes: &[u8]) {
-    let b = switch_on::factory_start();
-    let Judgement::Judged(v) = b.judge(bytes) else {
-        return;
-    };
-    say(v);
-}
-
-fn to_go_on(rt: &HostRuntime) -> bool {
-    input::goes_on(
-        rt,
-        b"usage: judge [FILE]\nSays of the command bytes in FILE, or in standard input, whether they are whole, open or wrong.\n",
-        b"",
-    )
+    if let Ok(v) = switch_on::factory_start().judge(bytes) {
+        say(v);
+    }
 }
 
 fn main(rt: HostRuntime) {
-    if !to_go_on(&rt) {
+    if !input::goes_on(&rt, USAGE, b"") {
         return;
     }
-    let mut bytes = io::large_buffer();
-    let Input::Whole(n) = input::read_shorter(&rt, &mut bytes, b"judge: more than 65,535 bytes\n")
-    else {
-        return;
-    };
-    answer(&bytes[..n]);
+    let mut buf = io::large_buffer();
+    if let Some(bytes) = input::read_shorter(&rt, &mut buf, b"judge: more than 65,535 bytes\n") {
+        answer(bytes);
+    }
 }

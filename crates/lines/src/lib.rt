@@ -1,17 +1,22 @@
-// What the waveforms of all buses share: the measure of one before it is written, the verb for a bit, and what samples give; and the
+// What the waveforms of all buses share: the measure of one before it is written, its actions, and what samples give; and the
 // waveforms of single lines and ports.
 #![tactic(auto)]
 
-ghost use Rattle.std.specs.Prelude.{◌≡◌, ◌≤◌, length};
+ghost use Rattle.std.specs.Prelude.{◌≡◌, ◌+◌, ◌≤◌, length};
+ghost use Rattle.wire.specs.Action.{bytes_of};
+ghost use Rattle.wire.specs.Buffer.{Written};
 ghost use Rattle.wire.specs.Sample.{byte_at};
-ghost use Rattle.lines.specs.Lines.{verb_for, levels, byte_of};
+ghost use Rattle.packet.specs.Register.{zeros};
+ghost use Rattle.lines.specs.Lines.{levels, byte_of, for_each};
 ghost use Rattle.lines.specs.Waves.{measured};
 
+pub mod actions;
 pub mod ports;
 pub mod pulses;
 pub mod readings;
-pub mod several;
 pub mod singles;
+
+use wire::Action;
 
 // What is known of a waveform before anything is written: the byte that its samples give, how many samples it uses, and how many
 // bytes its actions take.
@@ -22,7 +27,8 @@ pub struct Measured {
     pub bytes: usize,
 }
 
-// The measure of so many actions that sample nothing.
+// The measure of so many actions that sample nothing. Each waveform's own measure stands beside its writer; an argument that its code
+// leaves alone says, in its contract, which waveform it is.
 pub fn quiet(actions: u8) -> Measured
     ensures { result ≡ measured 0 actions 0 }
 {
@@ -34,10 +40,10 @@ pub fn quiet(actions: u8) -> Measured
 }
 
 // The measure of so many actions that sample once: the byte is the sample as it stands.
-pub fn once(actions: u8, samples: &[u8], from: usize) -> Measured
-    ensures { result ≡ measured 1 actions (byte_at samples.now from) }
+pub fn once(actions: u8, samples: &[u8]) -> Measured
+    ensures { result ≡ measured 1 actions (byte_at samples.now 0) }
 {
-    let byte = wire::byte_at(samples, from);
+    let byte = wire::byte_at(samples, 0);
     Measured {
         used: 1,
         bytes: wire::ACTION_BYTES * actions as usize,
@@ -46,12 +52,10 @@ pub fn once(actions: u8, samples: &[u8], from: usize) -> Measured
 }
 
 // The measure of so many actions that sample eight times: the byte of the levels, the first of them highest or lowest.
-// The caller shows that the mark is not past the samples' end.
-pub fn eight(actions: u8, samples: &[u8], from: usize, high: bool) -> Measured
-    requires { from ≤ length samples.now }
-    ensures { result ≡ measured 8 actions (byte_of high (levels samples.now from 8)) }
+pub fn eight(actions: u8, samples: &[u8], high: bool) -> Measured
+    ensures { result ≡ measured 8 actions (byte_of high (levels samples.now 0 8)) }
 {
-    let byte = readings::byte_of(samples, from, high);
+    let byte = readings::byte_of(samples, high);
     Measured {
         used: 8,
         bytes: wire::ACTION_BYTES * actions as usize,
@@ -59,9 +63,16 @@ pub fn eight(actions: u8, samples: &[u8], from: usize, high: bool) -> Measured
     }
 }
 
-// The verb for a bit, where the one for 1 is release on an open line and high on a driven one.
-pub fn verb_for(one: u8, bit: u8) -> u8
-    ensures { result ≡ verb_for one bit }
+// Writes a row of actions so many times, at the start of the unused part of a lent buffer, and answers how many bytes they are. The
+// caller shows that they fit there.
+// (Rows that differ are a loop in each bus: a closure that gives an array of any length gets no proof.)
+pub fn put_repeated<const N: usize>(out: &mut [u8], times: u8, row: &[Action; N]) -> usize
+    requires { 0 + length (bytes_of (for_each (λ _. row.now) (zeros times))) ≤ length out.old }
+    ensures { Written out.old 0 (bytes_of (for_each (λ _. row.now) (zeros times))) out.new result }
 {
-    if bit == 0 { wire::VERB_DRIVE_LOW } else { one }
+    let mut at = 0;
+    for _ in 0..times {
+        at += wire::put_actions(&mut out[at..], row);
+    }
+    at
 }

@@ -6,20 +6,12 @@ ghost use Rattle.lines.specs.Lines.{port_actions};
 ghost use Rattle.lines.specs.Waves.{measure_of, reinit, reinit_high};
 
 use crate::Measured;
+use crate::actions::{direction, latch};
 
 // Two actions for each of three ports.
 const PORT_ACTIONS: u8 = 2;
 
 const ACTIONS: u8 = 3 * PORT_ACTIONS;
-
-// A port's direction and then its latch.
-fn put_port(out: &mut [u8], port: u8, direction: u8, latch: u8) -> usize
-    requires { 8 ≤ length out.old }
-    ensures { Written out.old 0 (bytes_of (action set_direction port direction ∷ action set_latch port latch ∷ [])) out.new result }
-{
-    let a = wire::put_action(out, wire::VERB_DIRECTION, port, direction as u16);
-    a + wire::put_action(&mut out[a..], wire::VERB_LATCH, port, latch as u16)
-}
 
 // Direction then latch, for B, C, D, at the start of the unused part of a lent buffer, for which the caller shows the room.
 pub fn put_ports(
@@ -34,9 +26,15 @@ pub fn put_ports(
     requires { length (bytes_of (port_actions ddrb portb ddrc portc ddrd portd)) ≤ length out.old }
     ensures { Written out.old 0 (bytes_of (port_actions ddrb portb ddrc portc ddrd portd)) out.new result }
 {
-    let c = put_port(out, wire::LINE_PORT_B, ddrb, portb);
-    let d = c + put_port(&mut out[c..], wire::LINE_PORT_C, ddrc, portc);
-    d + put_port(&mut out[d..], wire::LINE_PORT_D, ddrd, portd)
+    let row = [
+        direction(wire::LINE_PORT_B, ddrb),
+        latch(wire::LINE_PORT_B, portb),
+        direction(wire::LINE_PORT_C, ddrc),
+        latch(wire::LINE_PORT_C, portc),
+        direction(wire::LINE_PORT_D, ddrd),
+        latch(wire::LINE_PORT_D, portd),
+    ];
+    wire::put_actions(out, &row)
 }
 
 // Reinit: all directions and latches 0.

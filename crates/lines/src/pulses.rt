@@ -5,33 +5,10 @@ ghost use Rattle.wire.specs.Buffer.{Written};
 ghost use Rattle.lines.specs.Waves.{measure_of, port_pulse, pb7_pulse};
 
 use crate::Measured;
-
-const LOW: u8 = wire::VERB_DRIVE_LOW;
-
-const HIGH: u8 = wire::VERB_DRIVE_HIGH;
-
-const LATCH: u8 = wire::VERB_LATCH;
+use crate::actions::{high, latch, low};
+use wire::Action;
 
 const ACTIONS: u8 = 3;
-
-// Two actions on a line around a wait.
-fn put_around(
-    out: &mut [u8],
-    line: u8,
-    v: u8,
-    first: u8,
-    unit: u8,
-    wait: u16,
-    w: u8,
-    last: u8,
-) -> usize
-    requires { 12 ≤ length out.old }
-    ensures { Written out.old 0 (bytes_of (action v line first ∷ action unit no_line wait ∷ action w line last ∷ [])) out.new result }
-{
-    let a = wire::put_action(out, v, line, first as u16);
-    let b = a + wire::put_action(&mut out[a..], unit, wire::NO_LINE, wait);
-    b + wire::put_action(&mut out[b..], w, line, last as u16)
-}
 
 // A latch written, a wait, and the latch written again.
 pub fn measure_port_pulse(line: u8, first: u8, unit: u8, wait: u8, last: u8) -> Measured
@@ -45,7 +22,8 @@ pub fn put_port_pulse(out: &mut [u8], line: u8, first: u8, unit: u8, wait: u8, l
     requires { length (bytes_of (port_pulse line first unit wait last).actions) ≤ length out.old }
     ensures { Written out.old 0 (bytes_of (port_pulse line first unit wait last).actions) out.new result }
 {
-    put_around(out, line, LATCH, first, unit, wait as u16, LATCH, last)
+    let wait = Action::new(unit, wire::NO_LINE, wait as u16);
+    wire::put_actions(out, &[latch(line, first), wait, latch(line, last)])
 }
 
 // PB7 driven low, a wait, and PB7 driven high.
@@ -60,5 +38,6 @@ pub fn put_pb7_pulse(out: &mut [u8], unit: u8, wait: u16) -> usize
     requires { length (bytes_of (pb7_pulse unit wait).actions) ≤ length out.old }
     ensures { Written out.old 0 (bytes_of (pb7_pulse unit wait).actions) out.new result }
 {
-    put_around(out, wire::LINE_PB7, LOW, 0, unit, wait, HIGH, 0)
+    let wait = Action::new(unit, wire::NO_LINE, wait);
+    wire::put_actions(out, &[low(wire::LINE_PB7), wait, high(wire::LINE_PB7)])
 }

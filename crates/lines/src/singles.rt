@@ -24,8 +24,8 @@ pub fn put_single(out: &mut [u8], verb: u8, line: u8, value: u8) -> usize
 }
 
 // One sample of a line or a port; a single action writes it.
-pub fn measure_sample(verb: u8, line: u8, samples: &[u8], from: usize) -> Measured
-    ensures { result ≡ measure_of (sampling verb line samples.now from) }
+pub fn measure_sample(verb: u8, line: u8, samples: &[u8]) -> Measured
+    ensures { result ≡ measure_of (sampling verb line samples.now 0) }
 {
-    crate::once(ACTIONS, samples, from)
+    crate::once(ACTIONS, samples)
 }

@@ -1,6 +1,6 @@
 -- The commands of the list 001 in 01's order, each with its name and its code. Lay 001 beside it, sections 2.1, 2.1.1 and 2.2.1
 -- to 2.2.3. How many operands a command has is the grammar's to say.
-use Rattle.std.specs.Prelude.{ℕ, suc, ◌≡◌, Bool, cond, ◌&&◌, List, [], ◌∷◌, ◌++◌, map, eqb, leb, get_or, take, drop}
+use Rattle.std.specs.Prelude.{ℕ, suc, ◌≡◌, Bool, cond, ◌&&◌, List, [], ◌∷◌, ◌++◌, Option, Some, None, map, eqb, leb, get_or, take, drop}
 use Prim.Native.String.{String}
 use Rattle.std.specs.Bool.{beq}
 use Rattle.padding.specs.Padding.{bytes, blanks, padded}
@@ -140,14 +140,14 @@ is_extended n = leb 31 n && leb n 41
 abbrev pub ExtendedRows : Type 0
 ExtendedRows = take 11 (drop 31 rows) ≡ extended
 
--- the first row from the n-th on that passes a test; the table's end if there is none
-unfoldable pub first_where : {A : Type 0} → (ℕ → A → Bool) → ℕ → List A → ℕ
-first_where test n [] = n
-first_where test n (x ∷ xs) = cond (test n x) n (first_where test (suc n) xs)
+-- the first row from the n-th on that passes a test
+unfoldable pub first_where : {A : Type 0} → (ℕ → A → Bool) → ℕ → List A → Option ℕ
+first_where test n [] = None
+first_where test n (x ∷ xs) = cond (test n x) (Some n) (first_where test (suc n) xs)
 
 -- whether the n-th row has a code and is extended or not
 abbrev pub has_code : ℕ → Bool → ℕ → ℕ → Bool
 has_code c e n x = eqb x c && beq (is_extended n) e
 
-unfoldable pub row_coded : ℕ → Bool → ℕ
+unfoldable pub row_coded : ℕ → Bool → Option ℕ
 row_coded c e = first_where (has_code c e) 0 codes

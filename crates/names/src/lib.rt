@@ -4,7 +4,7 @@
 ghost use Rattle.std.specs.Prelude.{◌≡◌};
 ghost use Rattle.names.specs.Names.{name_at, code_at, is_extended, row_coded};
 
-use crate::tables::{CODES, NAMES};
+use crate::tables::TABLE;
 
 mod tables;
 
@@ -18,43 +18,43 @@ const FIRST_EXTENDED: usize = 31;
 
 const LAST_EXTENDED: usize = 41;
 
+// A command's name, padded with blanks, and its code, for an extended one the byte after 1D. The name is an array: with references,
+// which have addresses, the table is no closed value, and the proof that its columns are the list's didn't close.
+type Row = ([u8; NAME_WIDTH], u8);
+
 // The name of a row's command; all blanks past the table.
 pub fn name(row: usize) -> [u8; NAME_WIDTH]
     ensures { result ≡ name_at row }
 {
-    if ROWS <= row {
-        return [b' '; NAME_WIDTH];
+    if row < ROWS {
+        TABLE[row].0
+    } else {
+        [b' '; NAME_WIDTH]
     }
-    NAMES[row]
 }
 
 // The byte of a row's command, for an extended one the byte after 1D; 0 past the table.
 pub fn code(row: usize) -> u8
     ensures { result ≡ code_at row }
 {
-    if ROWS <= row {
-        return 0;
-    }
-    CODES[row]
+    if row < ROWS { TABLE[row].1 } else { 0 }
 }
 
 // Whether a row's command comes after 1D.
 pub fn extended(row: usize) -> bool
     ensures { result ≡ is_extended row }
 {
-    (FIRST_EXTENDED <= row) & (row <= LAST_EXTENDED)
+    FIRST_EXTENDED <= row && row <= LAST_EXTENDED
 }
 
-// The row of a code, common or extended; ROWS if it has none.
-pub fn find(code: u8, is_extended: bool) -> usize
+// The row of a code, common or extended.
+pub fn find(code: u8, is_extended: bool) -> Option<usize>
     ensures { result ≡ row_coded code is_extended }
 {
-    let mut row: usize = 0;
-    while row < ROWS {
-        if (CODES[row] == code) & (extended(row) == is_extended) {
-            return row;
+    for (row, r) in TABLE.iter().enumerate() {
+        if r.1 == code && extended(row) == is_extended {
+            return Some(row);
         }
-        row += 1;
     }
-    ROWS
+    None
 }

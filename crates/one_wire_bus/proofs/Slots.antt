@@ -1,10 +1,7 @@
--- Laws of a slot's waits, of a byte's bits low bit first, and of how many actions slots are. Assumes nothing.
+-- Laws of a byte's bits low bit first, and of how many actions slots are. Assumes nothing.
 use mathlib.Core.Path.{◌≡◌, refl, ap, ◌∙◌}
 use Prim.Native.Nat.{ℕ, ◌-◌, ◌*◌, ◌/◌, ◌%◌, ◌^◌, ◌≤◌, ◌<◌}
-use native.Mathlib.Nat.{mul-le-mul_right}
 use native.Mathlib.Omega.{arith}
-use mir.Val.{Fits}
-use mir.Syntax.{w16}
 use lib.ListN.{length, get_or, take, length-append, length-reverse}
 use lib.Seq.{get_or-take, length-take-le}
 use Rattle.wire.specs.Action.{release}
@@ -15,12 +12,6 @@ use Rattle.lines.specs.Lines.{for_each}
 use Rattle.lines.proofs.Rows.{each_length}
 use Rattle.one_wire_bus.specs.declared.Waits.{Waits}
 use Rattle.one_wire_bus.specs.OneWire.{write_slot, low_first, write_slots}
-
--- a unit of at most 8 µs times at most 255 is a number of 16 bits
-pub few : (u n : ℕ) → u ≤ 8 → n ≤ 255 → Fits w16 (u * n)
-few u n h k =
-    let m : u * n ≤ 8 * n = mul-le-mul_right n h in
-    record { fits = omega arith }
 
 pub low_at : (byte i : ℕ) → i < 8 → get_or (low_first byte) i 0 ≡ byte / 2 ^ i % 2
 low_at byte i h =

@@ -1,4 +1,4 @@
-// The waveforms of 1-Wire: what each measures with the samples from a place on, and its writer at the front of a lent buffer.
+// The waveforms of 1-Wire: what each measures with the samples that it is given, and its writer at the front of a lent buffer.
 #![tactic(auto)]
 
 ghost use Rattle.std.specs.Prelude.{◌≡◌, ◌+◌, ◌-◌, ◌≤◌, ◌<◌, [], ◌∷◌, length, take};
@@ -8,12 +8,14 @@ ghost use Rattle.lines.specs.Lines.{for_each, waits};
 ghost use Rattle.lines.specs.Waves.{measure_of};
 ghost use Rattle.one_wire_bus.specs.OneWire.{group_waits, reset_waits, write_waits, read_waits, slot, sample_slot, write_slot, low_first, read_slots, one_wire_reset, one_wire_write, one_wire_read, one_wire_read_bit};
 
-use lines::Measured;
+use lines::actions::{low, low_or_released, released, sampled, waits};
+use lines::{Measured, put_repeated};
 use registers::TIMINGS;
+use wire::Action;
 
 const RELEASE: u8 = wire::VERB_RELEASE;
 
-const SAMPLE: u8 = wire::VERB_SAMPLE_LINE;
+const DQ: u8 = wire::LINE_DQ;
 
 // The three waits of a group, in µs; the definitions are about it too.
 #[derive(Clone, Copy)]
@@ -23,52 +25,53 @@ struct Waits {
     third: u16,
 }
 
-// How far one timing byte is after another, 0 if it is before.
-fn span(from: u8, to: u8) -> u16
-    ensures { result ≡ to - from }
-{
-    if to < from {
-        return 0;
-    }
-    (to - from) as u16
-}
-
 // The waits of a group: the differences of its three bytes and 255, in a unit of so many µs.
 fn group_waits(unit: u16, a: u8, b: u8, c: u8) -> Waits
     requires { unit ≤ 8 }
     ensures { result ≡ group_waits unit a b c }
 {
     Waits {
-        first: unit * span(a, b),
-        second: unit * span(b, c),
-        third: unit * span(c, 255),
+        first: unit * b.saturating_sub(a) as u16,
+        second: unit * c.saturating_sub(b) as u16,
+        third: unit * (255 - c) as u16,
     }
-}
-
-// An action on DQ and the wait after it.
-fn put_step(out: &mut [u8], verb: u8, wait: u16) -> usize
-    requires { 8 ≤ length out.old }
-    ensures { Written out.old 0 (bytes_of (action verb dq 0 ∷ waits wait ∷ [])) out.new result }
-{
-    let a = wire::put_action(out, verb, wire::LINE_DQ, 0);
-    a + wire::put_action(
-        &mut out[a..],
-        wire::VERB_WAIT_MICROSECONDS,
-        wire::NO_LINE,
-        wait,
-    )
 }
 
 const SLOT_ACTIONS: u8 = 6;
 
-// A slot by its three waits and the verbs of its third and fifth action.
-fn put_slot(out: &mut [u8], w: Waits, third: u8, fifth: u8) -> usize
-    requires { 24 ≤ length out.old }
-    ensures { Written out.old 0 (bytes_of (slot w (action third dq 0) (action fifth dq 0))) out.new result }
+// A slot by its three waits and its third and fifth action.
+fn slot(w: Waits, third: Action, fifth: Action) -> [Action; 6]
+    ensures { result ≡ slot w third fifth }
 {
-    let a = put_step(out, wire::VERB_DRIVE_LOW, w.first);
-    let b = a + put_step(&mut out[a..], third, w.second);
-    b + put_step(&mut out[b..], fifth, w.third)
+    [
+        low(DQ),
+        waits(w.first),
+        third,
+        waits(w.second),
+        fifth,
+        waits(w.third),
+    ]
+}
+
+// A slot that writes a bit; its fifth action's verb is given.
+fn write_slot(w: Waits, fifth: u8, bit: u8) -> [Action; 6]
+    ensures { result ≡ write_slot w fifth bit }
+{
+    slot(w, low_or_released(DQ, bit), Action::new(fifth, DQ, 0))
+}
+
+// A slot that samples.
+fn sample_slot(w: Waits) -> [Action; 6]
+    ensures { result ≡ sample_slot w }
+{
+    slot(w, released(DQ), sampled(DQ))
+}
+
+// The waits of the reset group.
+fn reset_waits(ts: [u8; TIMINGS]) -> Waits
+    ensures { result ≡ reset_waits ts }
+{
+    group_waits(8, ts[0], ts[1], ts[2])
 }
 
 // The waits of the write group.
@@ -85,20 +88,11 @@ fn read_waits(ts: [u8; TIMINGS]) -> Waits
     group_waits(1, ts[6], ts[7], ts[8])
 }
 
-// A slot that samples, by the three bytes of its group and the unit of its waits.
-fn put_sampled(out: &mut [u8], unit: u16, a: u8, b: u8, c: u8) -> usize
-    requires { (unit ≤ 8) × (24 ≤ length out.old) }
-    ensures { Written out.old 0 (bytes_of (sample_slot (group_waits unit a b c))) out.new result }
-{
-    let w = group_waits(unit, a, b, c);
-    put_slot(out, w, RELEASE, SAMPLE)
-}
-
 // 60: a reset, a slot of the reset group that samples.
-pub fn measure_reset(ts: [u8; TIMINGS], samples: &[u8], from: usize) -> Measured
-    ensures { result ≡ measure_of (one_wire_reset ts samples.now from) }
+pub fn measure_reset(ts: [u8; TIMINGS], samples: &[u8]) -> Measured
+    ensures { result ≡ measure_of (one_wire_reset ts samples.now 0) }
 {
-    lines::once(SLOT_ACTIONS, samples, from)
+    lines::once(SLOT_ACTIONS, samples)
 }
 
 // Writes a reset's actions, for which the caller shows the room.
@@ -106,7 +100,7 @@ pub fn put_reset(out: &mut [u8], ts: [u8; TIMINGS]) -> usize
     requires { length (bytes_of (sample_slot (reset_waits ts))) ≤ length out.old }
     ensures { Written out.old 0 (bytes_of (sample_slot (reset_waits ts))) out.new result }
 {
-    put_sampled(out, 8, ts[0], ts[1], ts[2])
+    wire::put_actions(out, &sample_slot(reset_waits(ts)))
 }
 
 // The low n bits of a byte, low bit first, each in a slot that ends released.
@@ -114,13 +108,9 @@ fn put_bits(out: &mut [u8], w: Waits, n: u8, byte: u8) -> usize
     requires { (n < 8) × (0 + length (bytes_of (for_each (write_slot w release) (take n (low_first byte)))) ≤ length out.old) }
     ensures { Written out.old 0 (bytes_of (for_each (write_slot w release) (take n (low_first byte)))) out.new result }
 {
-    let mut at: usize = 0;
-    let mut i: u8 = 0;
-    while i < n {
-        let verb = lines::verb_for(RELEASE, (byte >> i) % 2);
-        let k = put_slot(&mut out[at..], w, verb, RELEASE);
-        at += k;
-        i += 1;
+    let mut at = 0;
+    for i in 0..n {
+        at += wire::put_actions(&mut out[at..], &write_slot(w, RELEASE, (byte >> i) % 2));
     }
     at
 }
@@ -139,19 +129,18 @@ pub fn put_write(out: &mut [u8], ts: [u8; TIMINGS], n: u8, fifth: u8, byte: u8) 
     ensures { Written out.old 0 (bytes_of (one_wire_write ts n fifth byte).actions) out.new result }
 {
     let w = write_waits(ts);
-    let at = put_bits(out, w, n - 1, byte);
-    let verb = lines::verb_for(RELEASE, (byte >> (n - 1)) % 2);
-    at + put_slot(&mut out[at..], w, verb, fifth)
+    let last = n - 1;
+    let at = put_bits(out, w, last, byte);
+    at + wire::put_actions(&mut out[at..], &write_slot(w, fifth, (byte >> last) % 2))
 }
 
 const READ_ACTIONS: u8 = 8 * SLOT_ACTIONS;
 
-// 62: a byte read, low bit first. The caller shows that the mark is not past the samples' end.
-pub fn measure_read(ts: [u8; TIMINGS], samples: &[u8], from: usize) -> Measured
-    requires { from ≤ length samples.now }
-    ensures { result ≡ measure_of (one_wire_read ts samples.now from) }
+// 62: a byte read, low bit first.
+pub fn measure_read(ts: [u8; TIMINGS], samples: &[u8]) -> Measured
+    ensures { result ≡ measure_of (one_wire_read ts samples.now 0) }
 {
-    lines::eight(READ_ACTIONS, samples, from, false)
+    lines::eight(READ_ACTIONS, samples, false)
 }
 
 // Writes the actions of a byte read, for which the caller shows the room.
@@ -159,22 +148,14 @@ pub fn put_read(out: &mut [u8], ts: [u8; TIMINGS]) -> usize
     requires { length (bytes_of (read_slots (read_waits ts))) ≤ length out.old }
     ensures { Written out.old 0 (bytes_of (read_slots (read_waits ts))) out.new result }
 {
-    let w = read_waits(ts);
-    let mut at: usize = 0;
-    let mut i: u8 = 0;
-    while i < 8 {
-        let k = put_slot(&mut out[at..], w, RELEASE, SAMPLE);
-        at += k;
-        i += 1;
-    }
-    at
+    put_repeated(out, 8, &sample_slot(read_waits(ts)))
 }
 
 // 64: a bit read.
-pub fn measure_read_bit(ts: [u8; TIMINGS], samples: &[u8], from: usize) -> Measured
-    ensures { result ≡ measure_of (one_wire_read_bit ts samples.now from) }
+pub fn measure_read_bit(ts: [u8; TIMINGS], samples: &[u8]) -> Measured
+    ensures { result ≡ measure_of (one_wire_read_bit ts samples.now 0) }
 {
-    lines::once(SLOT_ACTIONS, samples, from)
+    lines::once(SLOT_ACTIONS, samples)
 }
 
 // Writes the actions of a bit read, for which the caller shows the room.
@@ -182,5 +163,5 @@ pub fn put_read_bit(out: &mut [u8], ts: [u8; TIMINGS]) -> usize
     requires { length (bytes_of (sample_slot (read_waits ts))) ≤ length out.old }
     ensures { Written out.old 0 (bytes_of (sample_slot (read_waits ts))) out.new result }
 {
-    put_sampled(out, 1, ts[6], ts[7], ts[8])
+    wire::put_actions(out, &sample_slot(read_waits(ts)))
 }

@@ -34,17 +34,14 @@ pub fn size_of(operand: u8) -> u8
 pub fn bytes_for(n: u8) -> u8
     ensures { result ≡ packet_bytes n }
 {
-    ((n as u16 + 7) / 8) as u8
+    n.div_ceil(8)
 }
 
 // How many of n bits stand above the lowest byte that they take.
 pub fn above_byte(n: u8) -> u8
     ensures { result ≡ n - 8 }
 {
-    if n < 8 {
-        return 0;
-    }
-    n - 8
+    n.saturating_sub(8)
 }
 
 // The register whose lowest byte is the first one held, and so on upward; 0 where none is held.
@@ -52,11 +49,8 @@ pub fn load(held: &[u8]) -> Register
     ensures { result ≡ from_held register_bytes held.now }
 {
     let mut q = [0u8; BYTES];
-    let mut i: usize = 0;
-    while i < BYTES {
-        let b = wire::byte_at(held, BYTES - 1 - i);
-        q[i] = b;
-        i += 1;
+    for i in 0..BYTES {
+        q[i] = wire::byte_at(held, BYTES - 1 - i);
     }
     q
 }
@@ -75,10 +69,7 @@ fn bit_at(r: Register, place: u8) -> u8
 fn low_bits(b: u8, n: u8) -> u8
     ensures { result ≡ b % 2 ^ min n 8 }
 {
-    if n < 8 {
-        return b % (1 << n);
-    }
-    b
+    if n < 8 { b % (1 << n) } else { b }
 }
 
 // The low n bits kept, the rest zero: each byte keeps of its bits what the bytes below it leave of n.
@@ -86,12 +77,9 @@ pub fn clear(r: Register, n: u8) -> Register
     ensures { result ≡ cleared width n r }
 {
     let mut q = [0u8; BYTES];
-    let mut i: usize = BYTES;
     let mut left = n;
-    while 0 < i {
-        i -= 1;
-        let b = low_bits(r[i], left);
-        q[i] = b;
+    for i in (0..BYTES).rev() {
+        q[i] = low_bits(r[i], left);
         left = above_byte(left);
     }
     q
@@ -109,10 +97,8 @@ fn raise(r: Register, n: u8) -> Register
     let whole = (up / 8) as usize;
     let rest = up % 8;
     let mut q = [0u8; BYTES];
-    let mut i: usize = BYTES;
     let mut lower: u8 = 0;
-    while 0 < i {
-        i -= 1;
+    for i in (0..BYTES).rev() {
         let upper = wire::byte_at(&r, i + whole);
         let pair = upper as u16 * 256 + lower as u16;
         q[i] = ((pair >> (8 - rest)) % 256) as u8;
@@ -125,10 +111,7 @@ fn raise(r: Register, n: u8) -> Register
 pub fn align(r: Register, n: u8, high: bool) -> Register
     ensures { result ≡ aligned width n high r }
 {
-    if high {
-        return raise(r, n);
-    }
-    r
+    if high { raise(r, n) } else { r }
 }
 
 // What the register holds after a load of the bytes held.
@@ -145,10 +128,7 @@ pub fn place_of(step: u8, n: u8, high: bool) -> u8
     requires { step < n }
     ensures { (result ≡ cond high step (n - 1 - step)) × (result < n) }
 {
-    if high {
-        return step;
-    }
-    n - 1 - step
+    if high { step } else { n - 1 - step }
 }
 
 // The bit that is sent at a step counted from 0. The caller shows that the register has so many bits.
@@ -182,11 +162,7 @@ pub fn bit_of_byte(b: u8, step: u8, high: bool) -> u8
 fn low_count(n: u8) -> usize
     ensures { result ≡ min (packet_bytes n) register_bytes }
 {
-    let count = bytes_for(n) as usize;
-    if BYTES < count {
-        return BYTES;
-    }
-    count
+    (bytes_for(n) as usize).min(BYTES)
 }
 
 // How many bytes `put_low` writes.

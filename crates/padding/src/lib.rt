@@ -8,12 +8,10 @@ ghost use Rattle.padding.specs.Padding.{trimmed_of};
 pub fn trimmed(text: &[u8]) -> &[u8]
     ensures { result.now ≡ trimmed_of text.now }
 {
-    let mut n = text.len();
-    while 0 < n {
-        if text[n - 1] != b' ' {
-            return &text[..n];
+    for i in (0..text.len()).rev() {
+        if text[i] != b' ' {
+            return &text[..=i];
         }
-        n -= 1;
     }
-    &text[..0]
+    &[]
 }

@@ -1,7 +1,7 @@
 -- Parts of the file, and the events in them. Assumes nothing.
 use Prim.Native.Nat.{ℕ, zero, suc, ◌+◌, ◌-◌, ◌^◌, ◌≤◌, ◌<◌}
 use mathlib.Core.Path.{◌≡◌, refl, sym, ap, ◌∙◌}
-use mathlib.Core.Bool.{Bool, true, false, cond, ◌&&◌}
+use mathlib.Core.Bool.{cond, ◌&&◌}
 use mathlib.Core.List.{List, [], ◌∷◌, map}
 use native.Mathlib.Omega.{arith}
 use native.Mathlib.Numerals.{add-one}
@@ -11,7 +11,9 @@ use lib.ListN.{length, take, drop, get_or, length-take, length-drop}
 use lib.Seq.{drop-cons, drop-drop, drop-nil, take-nil, take_all}
 use Rattle.registers.specs.declared.Event.{Event}
 use Rattle.records.specs.Records.{part}
+use Rattle.records.specs.declared.contents.Received.{Received}
 use Rattle.records.specs.Contents.{event_of, events_of}
+use Rattle.records.specs.declared.contents.Received.TheVariants as v
 use Rattle.records.proofs.Bodies.{part_of}
 use Rattle.wire.proofs.Choices.{by_bool, by_cond}
 
@@ -49,21 +51,21 @@ drop_map g zero l = refl
 drop_map g (suc n) [] = refl
 drop_map g (suc n) (x ∷ l) = drop_map g n l
 
-pub events_rest : (fault : Bool) (l : List ℕ) (n : ℕ) → drop n (events_of fault l) ≡ events_of fault (drop n l)
-events_rest fault l n = drop_map (event_of fault) n l
+pub events_rest : (received : Received) (l : List ℕ) (n : ℕ) → drop n (events_of received l) ≡ events_of received (drop n l)
+events_rest received l n = drop_map (event_of received) n l
 
-pub events_cons : (fault : Bool) (l : List ℕ) (i : ℕ) → i < length l → drop i (events_of fault l) ≡ event_of fault (get_or l i 0) ∷ drop (i + 1) (events_of fault l)
-events_cons fault l i h =
-    events_rest fault l i ∙ ap (events_of fault) (drop-cons l i 0 h) ∙ ap (λ (es : List Event). event_of fault (get_or l i 0) ∷ es) (sym (events_rest fault l (suc i)) ∙ ap (λ (k : ℕ). drop k (events_of fault l)) (sym (add-one i)))
+pub events_cons : (received : Received) (l : List ℕ) (i : ℕ) → i < length l → drop i (events_of received l) ≡ event_of received (get_or l i 0) ∷ drop (i + 1) (events_of received l)
+events_cons received l i h =
+    events_rest received l i ∙ ap (events_of received) (drop-cons l i 0 h) ∙ ap (λ (es : List Event). event_of received (get_or l i 0) ∷ es) (sym (events_rest received l (suc i)) ∙ ap (λ (k : ℕ). drop k (events_of received l)) (sym (add-one i)))
 
-pub events_length : (fault : Bool) (l : List ℕ) → length (events_of fault l) ≡ length l
-events_length fault [] = refl
-events_length fault (x ∷ l) = ap suc (events_length fault l)
+pub events_length : (received : Received) (l : List ℕ) → length (events_of received l) ≡ length l
+events_length received [] = refl
+events_length received (x ∷ l) = ap suc (events_length received l)
 
 -- none are left of a fault's body after its event
-pub no_fault : (fault : Bool) (l : List ℕ) → (fault ≡ true → l ≡ []) → events_of fault l ≡ events_of false l
-no_fault true l h = rw (h refl)
-no_fault false l h = refl
+pub no_fault : (received : Received) (l : List ℕ) → (received ≡ v.Fault → l ≡ []) → events_of received l ≡ events_of v.Bytes l
+no_fault v.Fault l h = rw (h refl)
+no_fault v.Bytes l h = refl
 
 -- SAMPLES: what is lent after some are used
 pub lent_rest : (s : List ℕ) (a z u : ℕ) → u ≤ length (cond (leb a z && leb z (length s)) (part s a z) [])

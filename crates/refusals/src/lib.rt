@@ -7,68 +7,46 @@ ghost use Rattle.refusals.specs.Refusals.{number_of, words_of};
 // Why a call is refused, or a session can't be replayed further; `number_of` in the definitions gives each its number.
 #[derive(Clone, Copy)]
 pub enum Refusal {
-    Ranges,
-    Samples,
-    Actions,
-    Replies,
-    Header,
-    Length,
-    Passes,
-    Kind,
-    FaultBody,
-    Size,
-    Factory,
-    Waits,
+    Ranges = 1,
+    Samples = 2,
+    Actions = 3,
+    Replies = 4,
+    Header = 5,
+    Length = 6,
+    Passes = 7,
+    Kind = 8,
+    FaultBody = 9,
+    Size = 10,
+    Factory = 11,
+    Waits = 12,
 }
-
-// The width of a refusal's words, padded with blanks.
-pub const WORDS_WIDTH: usize = 49;
-
-// How many numbers there are, with 0, which is no refusal's.
-const NUMBERS: usize = 13;
-
-const WORDS: [[u8; WORDS_WIDTH]; NUMBERS] = [
-    [b' '; WORDS_WIDTH],
-    *b"the state breaks its ranges                      ",
-    *b"fewer samples are left than the event uses       ",
-    *b"the actions do not fit                           ",
-    *b"the replies do not fit                           ",
-    *b"1 to 3 bytes left where a record header should be",
-    *b"record length over 4,096                         ",
-    *b"record body passes the end                       ",
-    *b"unknown kind                                     ",
-    *b"a fault body is not one byte of 81, 82, 83 hex   ",
-    *b"session over 32,768 bytes                        ",
-    *b"factory image not good                           ",
-    *b"judge's start waits for something or drops a byte",
-];
 
 // A refusal's number in 01.
-pub fn number(r: Refusal) -> u8
-    ensures { result ≡ number_of r }
-{
-    match r {
-        Refusal::Ranges => 1,
-        Refusal::Samples => 2,
-        Refusal::Actions => 3,
-        Refusal::Replies => 4,
-        Refusal::Header => 5,
-        Refusal::Length => 6,
-        Refusal::Passes => 7,
-        Refusal::Kind => 8,
-        Refusal::FaultBody => 9,
-        Refusal::Size => 10,
-        Refusal::Factory => 11,
-        Refusal::Waits => 12,
+impl From<Refusal> for u8 {
+    ghost from_gives = { λ r n. n ≡ number_of r };
+
+    fn from(r: Refusal) -> u8 {
+        r as u8
     }
 }
 
-// The refusal of a number in words; all blanks for a number that is no refusal's.
-pub fn words(number: usize) -> [u8; WORDS_WIDTH]
-    ensures { result ≡ words_of number }
+// The refusal of a number in words; no text for a number that is no refusal's.
+pub fn words(number: usize) -> &'static [u8]
+    ensures { result.now ≡ words_of number }
 {
-    if NUMBERS <= number {
-        return [b' '; WORDS_WIDTH];
+    match number {
+        1 => b"the state breaks its ranges",
+        2 => b"fewer samples are left than the event uses",
+        3 => b"the actions do not fit",
+        4 => b"the replies do not fit",
+        5 => b"1 to 3 bytes left where a record header should be",
+        6 => b"record length over 4,096",
+        7 => b"record body passes the end",
+        8 => b"unknown kind",
+        9 => b"a fault body is not one byte of 81, 82, 83 hex",
+        10 => b"session over 32,768 bytes",
+        11 => b"factory image not good",
+        12 => b"judge's start waits for something or drops a byte",
+        _ => b"",
     }
-    WORDS[number]
 }

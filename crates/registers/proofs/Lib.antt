@@ -4,3 +4,4 @@ pub mod InRange
 pub mod SameBits
 pub mod Protected
 pub mod OneBit
+pub mod Faults

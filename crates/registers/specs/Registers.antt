@@ -1,5 +1,5 @@
 -- The state's registers (01, "Registers and common commands") and its parts by name. The types are declared in src/lib.rt.
-use Rattle.std.specs.Prelude.{ℕ, ◌+◌, ◌*◌, ◌/◌, ◌%◌, Bool, true, false, List, eqb, set, take}
+use Rattle.std.specs.Prelude.{ℕ, ◌+◌, ◌*◌, ◌/◌, ◌%◌, ◌≡◌, ◌↔◌, Bool, true, false, cond, List, Result, Ok, Err, eqb, set, take}
 use Rattle.packet.specs.Register.{zeros}
 use Rattle.wire.specs.Action.{port_b, port_c, port_d, set_direction, set_latch}
 pub use Rattle.registers.specs.declared.Page.{Page}
@@ -13,6 +13,7 @@ pub use Rattle.registers.specs.declared.Wait.{Wait}
 pub use Rattle.registers.specs.declared.Wait.TheVariants.{Nothing, One, Extended, Packet, Timings}
 pub use Rattle.registers.specs.declared.Fault.{Fault}
 pub use Rattle.registers.specs.declared.Fault.TheVariants.{Frame, Overrun, Parity}
+pub use Rattle.registers.specs.declared.NoFault.{NoFault}
 
 -- COMMON_FLAGS: "bit 0 I2C, 1 SPI, 2 1-Wire, 3 REPORTS_EN, 4 AUTOLOAD_EN"
 abbrev pub i2c_selected : ℕ → Bool
@@ -70,6 +71,15 @@ abbrev pub fault_code : Fault → ℕ
 fault_code Frame = 0x81
 fault_code Overrun = 0x82
 fault_code Parity = 0x83
+
+-- the fault of a code, where it is one's
+abbrev pub fault_of : ℕ → Result Fault NoFault
+fault_of code =
+    cond (eqb code 0x81) (Ok Frame) (cond (eqb code 0x82) (Ok Overrun) (cond (eqb code 0x83) (Ok Parity) (Err (record {}))))
+
+-- THEOREM (proofs/Faults.antt, `fault_back`): exactly a fault's code gives it back
+abbrev pub FaultBack : ℕ → Fault → Type 0
+FaultBack code f = (fault_of code ≡ Ok f) ↔ (code ≡ fault_code f)
 
 -- THE PORT REGISTERS
 

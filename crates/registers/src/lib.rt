@@ -2,7 +2,7 @@
 #![tactic(auto)]
 
 ghost use Rattle.std.specs.Prelude.{◌≡◌};
-ghost use Rattle.registers.specs.Registers.{fault_code, bits_of, is_idle};
+ghost use Rattle.registers.specs.Registers.{fault_code, fault_of, bits_of, is_idle};
 ghost use Rattle.registers.specs.Ranges.{operand_fits, wait_fits, page_fits, drop_fits, state_fits};
 
 pub mod bits;
@@ -24,7 +24,8 @@ pub const SERIAL: usize = 4;
 pub const HELD: usize = 9;
 
 // The registers: COMMON_FLAGS, ERROR, the port registers, CONFIG_SPI, the configured mark, PAKET_SIZE, the packet register and the
-// timings. Their order here says nothing; it is the one that compiles best.
+// timings. Their order here says nothing; it is the one that compiles best. That the size is below the width is no invariant of the type,
+// nor are the other ranges, since a call answers any state (`answer_of`): functions that need them ask for them.
 #[derive(Clone, Copy)]
 pub struct Page {
     pub flags: u8,
@@ -96,7 +97,7 @@ pub enum Wait {
 }
 
 // The state; `held` has the packet or timing bytes that came in for the wait so far, and `drop` says that a line fault makes the next
-// byte be dropped.
+// byte be dropped. (The bytes held, their count in the wait, the marks and the drop are single bytes of the state for C, in fixed memory.)
 #[derive(Clone, Copy)]
 pub struct State {
     pub drop: bool,
@@ -122,13 +123,34 @@ pub enum Event {
 }
 
 // The device code of a line fault.
-pub fn fault_code(f: Fault) -> u8
-    ensures { result ≡ fault_code f }
-{
-    match f {
-        Fault::Frame => codes::FRAME,
-        Fault::Overrun => codes::OVERRUN,
-        Fault::Parity => codes::PARITY,
+impl From<Fault> for u8 {
+    ghost from_gives = { λ f code. code ≡ fault_code f };
+
+    fn from(f: Fault) -> u8 {
+        match f {
+            Fault::Frame => codes::FRAME,
+            Fault::Overrun => codes::OVERRUN,
+            Fault::Parity => codes::PARITY,
+        }
+    }
+}
+
+// A byte that is no line fault's code.
+#[derive(Clone, Copy)]
+pub struct NoFault;
+
+impl TryFrom<u8> for Fault {
+    type Error = NoFault;
+
+    ghost try_from_gives = { λ code r. r ≡ fault_of code };
+
+    fn try_from(code: u8) -> Result<Fault, NoFault> {
+        match code {
+            codes::FRAME => Ok(Fault::Frame),
+            codes::OVERRUN => Ok(Fault::Overrun),
+            codes::PARITY => Ok(Fault::Parity),
+            _ => Err(NoFault),
+        }
     }
 }
 
@@ -136,30 +158,19 @@ pub fn fault_code(f: Fault) -> u8
 pub fn is_idle(w: Wait) -> bool
     ensures { result ≡ is_idle w }
 {
-    match w {
-        Wait::Nothing => true,
-        Wait::One(_) => false,
-        Wait::Extended => false,
-        Wait::Packet {
-            left: _,
-            exchange: _,
-        } => false,
-        Wait::Timings { left: _ } => false,
-    }
+    matches!(w, Wait::Nothing)
 }
 
 fn operand_fits(o: Operand, flags: u8) -> bool
     ensures { result ≡ operand_fits o flags }
 {
     match o {
-        Operand::ToPort(_) => true,
-        Operand::ToCycles => true,
+        Operand::ToPort(_) | Operand::ToCycles => true,
         Operand::ToI2c => i2c_selected(flags),
-        Operand::ToConfig => spi_selected(flags),
-        Operand::ToSize => spi_selected(flags),
-        Operand::ToOneWire => one_wire_selected(flags),
-        Operand::ToOneWireBit => one_wire_selected(flags),
-        Operand::ToOneWireStrong => one_wire_selected(flags),
+        Operand::ToConfig | Operand::ToSize => spi_selected(flags),
+        Operand::ToOneWire | Operand::ToOneWireBit | Operand::ToOneWireStrong => {
+            one_wire_selected(flags)
+        }
     }
 }
 
@@ -167,10 +178,9 @@ fn wait_fits(w: Wait, flags: u8, configured: bool, size: u8) -> bool
     ensures { result ≡ wait_fits w flags configured (bits_of size) }
 {
     match w {
-        Wait::Nothing => true,
+        Wait::Nothing | Wait::Extended => true,
         Wait::One(o) => operand_fits(o, flags),
-        Wait::Extended => true,
-        Wait::Packet { left, exchange: _ } => {
+        Wait::Packet { left, .. } => {
             spi_selected(flags) & configured & (1 <= left) & (left <= packet_bytes(size))
         }
         Wait::Timings { left } => one_wire_selected(flags)
@@ -195,7 +205,7 @@ fn page_fits(p: Page) -> bool
 fn drop_fits(pending: bool, w: Wait) -> bool
     ensures { result ≡ drop_fits pending w }
 {
-    if pending { is_idle(w) } else { true }
+    !pending | is_idle(w)
 }
 
 // Whether a state breaks no range; if it breaks one, a call is refused with 1.

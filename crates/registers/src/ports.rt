@@ -23,31 +23,14 @@ pub fn store_register(mut p: Page, r: PortRegister, x: u8) -> Page
     ensures { result ≡ with_register p r x }
 {
     match r {
-        PortRegister::Ddrb => {
-            p.ddrb = x;
-            p
-        }
-        PortRegister::Portb => {
-            p.portb = x;
-            p
-        }
-        PortRegister::Ddrc => {
-            p.ddrc = x;
-            p
-        }
-        PortRegister::Portc => {
-            p.portc = x;
-            p
-        }
-        PortRegister::Ddrd => {
-            p.ddrd = x;
-            p
-        }
-        PortRegister::Portd => {
-            p.portd = x;
-            p
-        }
+        PortRegister::Ddrb => p.ddrb = x,
+        PortRegister::Portb => p.portb = x,
+        PortRegister::Ddrc => p.ddrc = x,
+        PortRegister::Portc => p.portc = x,
+        PortRegister::Ddrd => p.ddrd = x,
+        PortRegister::Portd => p.portd = x,
     }
+    p
 }
 
 fn keep_c(old: u8, new: u8) -> u8
@@ -67,12 +50,9 @@ pub fn protect(r: PortRegister, old: u8, new: u8) -> u8
     ensures { result ≡ protected r old new }
 {
     match r {
-        PortRegister::Ddrb => new,
-        PortRegister::Portb => new,
-        PortRegister::Ddrc => keep_c(old, new),
-        PortRegister::Portc => keep_c(old, new),
-        PortRegister::Ddrd => keep_d(old, new),
-        PortRegister::Portd => keep_d(old, new),
+        PortRegister::Ddrb | PortRegister::Portb => new,
+        PortRegister::Ddrc | PortRegister::Portc => keep_c(old, new),
+        PortRegister::Ddrd | PortRegister::Portd => keep_d(old, new),
     }
 }
 
@@ -81,12 +61,8 @@ pub fn port_verb(r: PortRegister) -> u8
     ensures { result ≡ verb_of r }
 {
     match r {
-        PortRegister::Ddrb => wire::VERB_DIRECTION,
-        PortRegister::Portb => wire::VERB_LATCH,
-        PortRegister::Ddrc => wire::VERB_DIRECTION,
-        PortRegister::Portc => wire::VERB_LATCH,
-        PortRegister::Ddrd => wire::VERB_DIRECTION,
-        PortRegister::Portd => wire::VERB_LATCH,
+        PortRegister::Ddrb | PortRegister::Ddrc | PortRegister::Ddrd => wire::VERB_DIRECTION,
+        PortRegister::Portb | PortRegister::Portc | PortRegister::Portd => wire::VERB_LATCH,
     }
 }
 
@@ -95,11 +71,8 @@ pub fn port_line(r: PortRegister) -> u8
     ensures { result ≡ line_of r }
 {
     match r {
-        PortRegister::Ddrb => wire::LINE_PORT_B,
-        PortRegister::Portb => wire::LINE_PORT_B,
-        PortRegister::Ddrc => wire::LINE_PORT_C,
-        PortRegister::Portc => wire::LINE_PORT_C,
-        PortRegister::Ddrd => wire::LINE_PORT_D,
-        PortRegister::Portd => wire::LINE_PORT_D,
+        PortRegister::Ddrb | PortRegister::Portb => wire::LINE_PORT_B,
+        PortRegister::Ddrc | PortRegister::Portc => wire::LINE_PORT_C,
+        PortRegister::Ddrd | PortRegister::Portd => wire::LINE_PORT_D,
     }
 }

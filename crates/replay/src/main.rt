@@ -5,8 +5,11 @@ ghost use Rattle.std.specs.Prelude.{◌≡◌, false, ◌<◌, ◌≤◌, length
 ghost use Rattle.session.specs.Runs.{left};
 ghost use Rattle.transcript.specs.Transcript.{most_output};
 
-use input::Input;
+use records::reading::MOST_SESSION;
 use session::replay::Cursor;
+
+const USAGE: &[u8] =
+    b"usage: replay [FILE]\nWrites the transcript of the session in FILE, or in standard input, to standard output.\n";
 
 // The bytes of a chunk of the transcript. Zeroing more costs more than the calls that it saves.
 const CHUNK: usize = 16384;
@@ -34,22 +37,13 @@ fn write_transcript(rt: &HostRuntime, session: &[u8]) {
     }
 }
 
-fn to_go_on(rt: &HostRuntime) -> bool {
-    input::goes_on(
-        rt,
-        b"usage: replay [FILE]\nWrites the transcript of the session in FILE, or in standard input, to standard output.\n",
-        b"",
-    )
-}
-
 // One byte more than a session may have is enough to refuse it for its size.
 fn main(rt: HostRuntime) {
-    if !to_go_on(&rt) {
+    if !input::goes_on(&rt, USAGE, b"") {
         return;
     }
-    let mut session = [0u8; 32769];
-    let Input::Whole(n) = input::read(&rt, &mut session) else {
-        return;
-    };
-    write_transcript(&rt, &session[..n]);
+    let mut buf = [0u8; MOST_SESSION + 1];
+    if let Some(session) = input::read(&rt, &mut buf) {
+        write_transcript(&rt, session);
+    }
 }

@@ -1,67 +1,32 @@
 // A script, which is a text, made into the records of a session.
 #![tactic(auto)]
 
-ghost use Rattle.std.specs.Prelude.{◌≡◌, ◌-◌, ◌≤◌, length};
+ghost use Rattle.std.specs.Prelude.{◌≡◌, length};
 ghost use Rattle.text.specs.Lists.{Reads};
-ghost use Rattle.script.specs.Parsed.{meant, InBuffer};
-ghost use Rattle.script.specs.Script.{records_of, handed, script_of};
+ghost use Rattle.script.specs.Script.{handed_bytes, script_of};
 
 mod cut;
 mod statements;
 
 use grammar::following;
 use grammar::following::Stream;
-use statements::Parsed;
-use text::words::Class;
-use text::{Assembled, Stop, words};
+use records::kinds::Kind;
+use records::reading::MOST_SESSION;
+use text::{Assembled, words};
 
-// The most bytes of a session.
-const MOST_SESSION: usize = 32768;
-
-// The records of what the line at a place says, to the output from a place on. The caller shows that the statement's bytes are in
-// the buffer and that the place is there.
-fn put_parsed(parsed: Parsed, body: &[u8], at: usize, out: &mut [u8], size: usize) -> Assembled
-    requires { InBuffer body.now parsed × (size ≤ length out.old) }
-    ensures { Reads (records_of (length out.old - size) at (meant body.now parsed)) out.old size out.new result }
+// Where the stream stands after a statement's bytes, for records of a kind.
+fn hand_over(g: Stream, kind: Kind, bytes: &[u8]) -> Stream
+    ensures { result ≡ handed_bytes g kind bytes.now }
 {
-    match parsed {
-        Parsed::Nothing => Assembled {
-            size,
-            stop: Stop::Done,
-        },
-        Parsed::Bytes { kind, size: n } => cut::put_records(out, size, kind, &body[..n], at),
-        Parsed::Wrong { place, expected } => {
-            let stop = Stop::Wrong { place, expected };
-            Assembled { size, stop }
-        }
-    }
-}
-
-// Where the stream stands after what a line says. The caller shows that the statement's bytes are in the buffer.
-fn hand_over(g: Stream, parsed: Parsed, body: &[u8]) -> Stream
-    requires { InBuffer body.now parsed }
-    ensures { result ≡ handed g (meant body.now parsed) }
-{
-    match parsed {
-        Parsed::Nothing => g,
-        Parsed::Bytes { kind, size } => {
-            if kind == statements::BYTES {
-                return following::after_bytes(g, &body[..size]);
-            }
-            if kind == statements::FAULT {
-                return following::after_fault(g);
-            }
-            g
-        }
-        Parsed::Wrong {
-            place: _,
-            expected: _,
-        } => g,
+    match kind {
+        Kind::Bytes => following::after_bytes(g, bytes),
+        Kind::Fault => following::after_fault(g),
+        Kind::Samples => g,
     }
 }
 
 // A script's records, to the front of the output, up to the first line that is wrong or does not fit. Any text and any output
-// will do.
+// will do. (The loop goes by places of the text, as the definition does: what is wrong in a line is a place of the whole text.)
 pub fn assemble(text: &[u8], out: &mut [u8]) -> Assembled
     ensures { Reads (script_of text.now (length out.old)) out.old 0 out.new result }
 {
@@ -70,23 +35,28 @@ pub fn assemble(text: &[u8], out: &mut [u8]) -> Assembled
     let mut at: usize = 0;
     let mut size: usize = 0;
     while at < text.len() {
-        let parsed = statements::statement(text, g.scanner.context, at, &mut body);
-        let r = put_parsed(parsed, &body, at, out, size);
-        let stop = r.stop;
-        size = r.size;
-        match stop {
-            Stop::Done => {
-                g = hand_over(g, parsed, &body);
-                at = words::past(text, Class::Line, at) + 1;
+        let said = match statements::statement(text, g.scanner.context, at, &mut body) {
+            Ok(said) => said,
+            Err(wrong) => {
+                return Assembled {
+                    size,
+                    outcome: Err(wrong),
+                };
             }
-            Stop::Wrong { place, expected } => {
-                let stop = Stop::Wrong { place, expected };
-                return Assembled { size, stop };
+        };
+        if let Some(said) = said {
+            let bytes = &body[..said.size];
+            let put = cut::put_records(out, size, said.kind, bytes, at);
+            if put.outcome.is_err() {
+                return put;
             }
+            size = put.size;
+            g = hand_over(g, said.kind, bytes);
         }
+        at = words::line_end(text, at) + 1;
     }
     Assembled {
         size,
-        stop: Stop::Done,
+        outcome: Ok(()),
     }
 }

@@ -11,17 +11,17 @@ use lib.ListN.{length, get_or}
 use Rattle.registers.specs.declared.Event.{Event}
 use Rattle.effects.specs.declared.Returned.TheVariants.{Nothing}
 use Rattle.bridge.specs.Answering.{Given}
-use Rattle.bridge.specs.declared.Outcome.{Outcome}
-use Rattle.bridge.specs.declared.Outcome.TheVariants.{Taken, Refused}
+use Rattle.std.specs.Prelude.{Result, Ok, Err}
 use Rattle.refusals.specs.declared.Refusal.{Refusal}
 use Rattle.records.specs.Records.{part}
+use Rattle.records.specs.declared.contents.Received.{Received}
 use Rattle.records.specs.Contents.{event_of, events_of}
 use Rattle.wire.proofs.Choices.{by_bool}
 use Rattle.transcript.specs.Transcript.{call_of, most_output}
 use Rattle.session.specs.Runs.{Cursor, Ran, lent_to, entered, stopped, Steps, event_step, first_step, step_of, then_steps, steps_of, RanSteps, left}
-use Rattle.session.specs.Next.{Next, next_of, next_step, first_call, codes_at, next_codes, Advanced, Advances}
+use Rattle.session.specs.Next.{Next, Stop, next_of, next_step, first_call, codes_at, next_codes, Advanced, Advances}
 use Rattle.session.specs.declared.next.Next.TheVariants as n
-use Rattle.transcript.specs.Events.{bridge_of, EventDone}
+use Rattle.transcript.specs.Events.{bridge_of, EventTaken, EventRefused}
 use Rattle.transcript.specs.declared.events.Done.{Done}
 use Rattle.session.specs.Inner.{StepDone}
 use Rattle.transcript.proofs.CallTests.{call_codeless}
@@ -32,55 +32,46 @@ use Rattle.session.proofs.Going.{going_first, runs_over, runs_full}
 use Rattle.session.proofs.NextSteps.{step_next, event_lies}
 
 -- THE FIRST EVENT of a body, with a buffer that held o
-module _ (c : Cursor) (fault : Bool) (start end : ℕ) (body ss o : List ℕ) where
+module _ (c : Cursor) (received : Received) (start end : ℕ) (body ss o : List ℕ) where
   abbrev g : Given
-  g = first_call c.bridge fault body ss
+  g = first_call c.bridge received body ss
 
   abbrev First : List ℕ → Advanced → Type 0
   First x r = StepDone (event_step (entered c start end) g.answer.outcome g) g.answer.codes o x r
 
-  pub first_refused : (why : Refusal) → g.answer.outcome ≡ Refused why → {x : List ℕ} {r : Ran} → RanSteps (stopped why start) o x r → First x (record { ran = r; returned = Nothing })
+  pub first_refused : (why : Refusal) → g.answer.outcome ≡ Err why → {x : List ℕ} {r : Ran} → RanSteps (stopped why start) o x r → First x (record { ran = r; returned = Nothing })
   first_refused why e {x} {r} u = record {
-    ran = subst (λ (t : Outcome). RanSteps (event_step (entered c start end) t g) o x r) (sym e) u;
-    codes_as = sym (call_codeless c.bridge (event_of fault (get_or body 0 0)) ss why e);
+    ran = subst (λ (t : Result (Unit {0}) Refusal). RanSteps (event_step (entered c start end) t g) o x r) (sym e) u;
+    codes_as = sym (call_codeless c.bridge (event_of received (get_or body 0 0)) ss why e);
   }
 
-  module _ {e : Event} (ev : e ≡ event_of fault (get_or body 0 0)) {x : List ℕ} {d : Done} (a : EventDone (call_of c.bridge e ss) ss o x d) where
-    done : EventDone g ss o x d
-    done = subst (λ (v : Event). EventDone (call_of c.bridge v ss) ss o x d) ev a
+  -- it is refused, and the buffer is as it was
+  pub first_stops : {x : List ℕ} {why : Refusal} → EventRefused g o x why → {y : List ℕ} {r : Ran} → RanSteps (stopped why start) x y r → First y (record { ran = r; returned = Nothing })
+  first_stops {x} {why} a {y} {r} u = first_refused why a.outcome (subst (λ (l : List ℕ). RanSteps (stopped why start) l y r) a.same u)
 
-    -- it is refused, and the buffer is as it was
-    pub first_stops : (why : Refusal) → d.outcome ≡ Refused why → {y : List ℕ} {r : Ran} → RanSteps (stopped why start) x y r → First y (record { ran = r; returned = Nothing })
-    first_stops why k {y} {r} u =
-        let k' : g.answer.outcome ≡ Refused why = sym done.outcome ∙ k in
-        first_refused why k' (subst (λ (l : List ℕ). RanSteps (stopped why start) l y r) (done.refused why k') u)
-
-    pub first_accepted : d.outcome ≡ Taken → {q : Cursor} → q ≡ record { bridge = bridge_of d.state; at = start + 1; end = end; sample = c.sample + d.used; sampled = c.sampled; done = false }
-        → First x (record { ran = record { cursor = q; written = d.written; steps = 1 }; returned = d.returned })
-    first_accepted k {q} e =
-        let k' : g.answer.outcome ≡ Taken = sym done.outcome ∙ k in
-        let f = done.accepted k' in
-        record {
-          ran = subst (λ (t : Outcome). RanSteps (event_step (entered c start end) t g) o x (record { cursor = q; written = d.written; steps = 1 })) (sym k')
-              (record { next = e ∙ (λ i. record { bridge = f.0 i; at = start + 1; end = end; sample = c.sample + f.1 i; sampled = c.sampled; done = false }); wrote = f.2; steps = refl; within = done.within });
-          codes_as = done.codes;
-        }
+  pub first_taken : {x : List ℕ} {d : Done} → EventTaken g ss o x d
+      → First x (record { ran = record { cursor = record { bridge = bridge_of d.state; at = start + 1; end = end; sample = c.sample + d.used; sampled = c.sampled; done = false }; written = d.written; steps = 1 }; returned = d.returned })
+  first_taken {x} {d} a = record {
+    ran = subst (λ (t : Result (Unit {0}) Refusal). RanSteps (event_step (entered c start end) t g) o x (record { cursor = record { bridge = bridge_of d.state; at = start + 1; end = end; sample = c.sample + d.used; sampled = c.sampled; done = false }; written = d.written; steps = 1 })) (sym a.outcome)
+        (record { next = λ i. record { bridge = a.bridge i; at = start + 1; end = end; sample = c.sample + a.used i; sampled = c.sampled; done = false }; wrote = a.wrote; steps = refl; within = a.within });
+    codes_as = a.codes;
+  }
 
 -- A STEP by what is next
 module _ (s : List ℕ) (c : Cursor) (o : List ℕ) where
-  pub without_event_lem : (y : Next) → next_of s c.at c.end ≡ y → codes_at s c y ≡ [] → {x : List ℕ} {r : Ran} → RanSteps (next_step s c y) o x r
+  pub without_event_lem : (y : Result Next Stop) → next_of s c.at c.end ≡ y → codes_at s c y ≡ [] → {x : List ℕ} {r : Ran} → RanSteps (next_step s c y) o x r
       → StepDone (step_of s c) (codes_at s c (next_of s c.at c.end)) o x (record { ran = r; returned = Nothing })
   without_event_lem y e k {x} {r} u = record {
     ran = subst (λ (t : Steps). RanSteps t o x r) (sym (step_next s c ∙ ap (next_step s c) e)) u;
     codes_as = sym (ap (codes_at s c) e ∙ k);
   }
 
-  pub with_event : {fault : Bool} {start end : ℕ} → next_of s c.at c.end ≡ n.Event fault start end → {x : List ℕ} {r : Advanced} → First c fault start end (part s start end) (lent_to s c) o x r
+  pub with_event : {received : Received} {start end : ℕ} → next_of s c.at c.end ≡ Ok (n.Event received start end) → {x : List ℕ} {r : Advanced} → First c received start end (part s start end) (lent_to s c) o x r
       → StepDone (step_of s c) (codes_at s c (next_of s c.at c.end)) o x r
-  with_event {fault} {start} {end} e {x} {r} d =
+  with_event {received} {start} {end} e {x} {r} d =
       let lies = event_lies s c.at c.end e in
-      let q : step_of s c ≡ event_step (entered c start end) (first_call c.bridge fault (part s start end) (lent_to s c)).answer.outcome (first_call c.bridge fault (part s start end) (lent_to s c)) =
-      step_next s c ∙ ap (next_step s c) e ∙ ap (λ (l : List ℕ). first_step (entered c start end) (events_of fault l) (lent_to s c)) (part_first s start end lies.0 lies.1) in
+      let q : step_of s c ≡ event_step (entered c start end) (first_call c.bridge received (part s start end) (lent_to s c)).answer.outcome (first_call c.bridge received (part s start end) (lent_to s c)) =
+      step_next s c ∙ ap (next_step s c) e ∙ ap (λ (l : List ℕ). first_step (entered c start end) (events_of received l) (lent_to s c)) (part_first s start end lies.some lies.within) in
       record {
         ran = subst (λ (t : Steps). RanSteps t o x r.ran) (sym q) d.ran;
         codes_as = d.codes_as ∙ sym (ap (codes_at s c) e);

@@ -1,18 +1,18 @@
 // What the next step of a replay is about.
 ghost use Rattle.std.specs.Prelude.{◌≡◌};
+ghost use Rattle.records.specs.Records.{record_from};
 ghost use Rattle.records.specs.Contents.{content_of};
-ghost use Rattle.session.specs.Next.{next_body, next_of};
+ghost use Rattle.session.specs.Next.{next_body, next_record, next_of};
 
-use crate::replay::MOST_SESSION;
-use records::contents::{Content, content_of};
-use records::reading::{Record, record_from};
+use records::contents::{Content, Received, content_of};
+use records::reading::{Body, MOST_SESSION, record_from};
 use refusals::Refusal;
 
-// The first of the events in a body, a body without any, samples, the session's end, or a refusal with its place.
+// The first of the events in a body, a body without any, samples, or the session's end.
 #[derive(Clone, Copy)]
 pub enum Next {
     Event {
-        fault: bool,
+        received: Received,
         start: usize,
         end: usize,
     },
@@ -25,43 +25,51 @@ pub enum Next {
         end: usize,
     },
     End,
-    Refused {
-        why: Refusal,
-        place: usize,
-    },
 }
 
-// A record's body by its kind; a body that can't be taken is refused at a place.
-fn next_in(kind: usize, body: &[u8], start: usize, end: usize, place: usize) -> Next
-    ensures { result ≡ next_body place start end (content_of kind body.now) }
+// Why a replay ends before its session does, and the place in the file.
+#[derive(Clone, Copy)]
+pub struct Stop {
+    pub why: Refusal,
+    pub place: usize,
+}
+
+// A record's body by its kind.
+fn next_in(body: Body, bytes: &[u8]) -> Result<Next, Refusal>
+    ensures { result ≡ next_body body.start body.end (content_of body.kind bytes.now) }
 {
-    let content = content_of(kind, body);
-    match content {
-        Content::Events { fault } => {
-            if start == end {
-                return Next::Empty { start, end };
-            }
-            Next::Event { fault, start, end }
-        }
-        Content::Samples => Next::Samples { start, end },
-        Content::Refused(why) => Next::Refused { why, place },
+    let Body { kind, start, end } = body;
+    match content_of(kind, bytes)? {
+        Content::Events(_) if start == end => Ok(Next::Empty { start, end }),
+        Content::Events(received) => Ok(Next::Event {
+            received,
+            start,
+            end,
+        }),
+        Content::Samples => Ok(Next::Samples { start, end }),
+    }
+}
+
+// What is left of the body up to an end, or the record at a place.
+fn next_record(session: &[u8], at: usize, end: usize) -> Result<Next, Refusal>
+    ensures { result ≡ next_record session.now (record_from session.now at end) }
+{
+    match record_from(session, at, end)? {
+        Some(body) => next_in(body, &session[body.start..body.end]),
+        None => Ok(Next::End),
     }
 }
 
 // What is next where a replay stands at a place, in a body up to an end or past it.
-pub fn next_at(session: &[u8], at: usize, end: usize) -> Next
+#[tactic(auto, unfolding(crate::specs::Next::next_of))]
+pub fn next_at(session: &[u8], at: usize, end: usize) -> Result<Next, Stop>
     ensures { result ≡ next_of session.now at end }
 {
     if MOST_SESSION < session.len() {
-        return Next::Refused {
+        return Err(Stop {
             why: Refusal::Size,
             place: 0,
-        };
+        });
     }
-    let record = record_from(session, at, end);
-    match record {
-        Record::Body { kind, start, end } => next_in(kind, &session[start..end], start, end, at),
-        Record::End => Next::End,
-        Record::Refused(why) => Next::Refused { why, place: at },
-    }
+    next_record(session, at, end).map_err(|why| Stop { why, place: at })
 }

@@ -1,15 +1,13 @@
 // The steps of a replay: the events of a body, or a record that has none.
 ghost use Rattle.std.specs.Prelude.{◌≡◌, false, ◌≤◌, ◌<◌, length};
-ghost use Rattle.records.specs.Records.{part};
-ghost use Rattle.records.specs.Contents.{content_of};
 ghost use Rattle.transcript.specs.Transcript.{last_of, most_output};
-ghost use Rattle.session.specs.Runs.{finished, one_step, stopped, body_step, step_of, RanSteps};
+ghost use Rattle.session.specs.Runs.{finished, one_step, stopped, RanSteps};
 ghost use Rattle.session.specs.Inner.{Goes, CanStep, Entering};
 
-use crate::replay::{Cursor, MOST_SESSION, Ran, ended, lent, standing};
-use bridge::{Bridge, Outcome};
-use records::contents::{Content, content_of};
-use records::reading::{Record, record_from};
+use crate::next::{Next, next_at};
+use crate::replay::{Cursor, Ran, ended, entered, lent, replaced};
+use bridge::Bridge;
+use records::contents::Received;
 use refusals::Refusal;
 use transcript::{events, output};
 
@@ -58,20 +56,20 @@ pub(crate) fn pass(cursor: Cursor) -> Ran
 // caller shows that the next step is its first event, and that there is room for it.
 fn play(
     c: Cursor,
-    fault: bool,
+    received: Received,
     start: usize,
     end: usize,
     session: &[u8],
     budget: usize,
     out: &mut [u8],
 ) -> Ran
-    requires { CanStep budget session.now c out.old × Entering session.now c fault start end }
+    requires { CanStep budget session.now c out.old × Entering session.now c received start end }
     ensures { Goes budget session.now c out.old out.new result }
 {
     let s = c.bridge.state;
     let r = events::run_events(
         s,
-        fault,
+        received,
         &session[start..end],
         budget,
         lent(session, c),
@@ -79,9 +77,7 @@ fn play(
     );
     let read = r.read;
     let n = r.written;
-    let state = r.state;
-    let outcome = r.outcome;
-    if let Outcome::Refused(why) = outcome {
+    if let Err(why) = r.outcome {
         let m = output::put_refusal(&mut out[n..], why, start + read);
         let cursor = ended();
         return Ran {
@@ -90,8 +86,14 @@ fn play(
             steps: read + 1,
         };
     }
-    let bridge = Bridge { state };
-    let cursor = standing(bridge, start + read, end, c.sample + r.used, c.sampled);
+    let cursor = Cursor {
+        bridge: Bridge { state: r.state },
+        at: start + read,
+        end,
+        sample: c.sample + r.used,
+        sampled: c.sampled,
+        done: false,
+    };
     Ran {
         cursor,
         written: n,
@@ -99,50 +101,23 @@ fn play(
     }
 }
 
-// A record's body by its kind: its events are run, or its samples replace those unread; one that can't be taken ends the run there.
-// The caller shows that the next step is about this body, and that there is room for any event's output.
-fn take_body(
-    c: Cursor,
-    kind: usize,
-    start: usize,
-    end: usize,
-    session: &[u8],
-    budget: usize,
-    out: &mut [u8],
-) -> Ran
-    requires { CanStep budget session.now c out.old × (start ≤ end) × (end ≤ length session.now) × (step_of session.now c ≡ body_step session.now c start end (content_of kind (part session.now start end))) }
-    ensures { Goes budget session.now c out.old out.new result }
-{
-    let content = content_of(kind, &session[start..end]);
-    let Content::Events { fault } = content else {
-        if let Content::Refused(why) = content {
-            return stop(why, c.at, out);
-        }
-        let bridge = c.bridge;
-        return pass(standing(bridge, end, end, start, end));
-    };
-    if start == end {
-        let bridge = c.bridge;
-        return pass(standing(bridge, start, end, c.sample, c.sampled));
-    }
-    play(c, fault, start, end, session, budget, out)
-}
-
-// What is left of the body that the replay is in, or the next record; one that can't be taken ends the run there. The caller shows
-// that the replay is not over, that there is a step to make, and that there is room for any event's output.
+// The next step, the rest of a body or a record that has no event; one that can't be taken ends the run there. The caller shows that
+// the replay is not over, that there is a step to make, and that there is room for any event's output.
 pub(crate) fn step(c: Cursor, session: &[u8], budget: usize, out: &mut [u8]) -> Ran
     requires { (c.done ≡ false) × (0 < budget) × (most_output ≤ length out.old) }
     ensures { Goes budget session.now c out.old out.new result }
 {
-    if MOST_SESSION < session.len() {
-        return stop(Refusal::Size, 0, out);
+    match next_at(session, c.at, c.end) {
+        Ok(
+            Next::Event {
+                received,
+                start,
+                end,
+            },
+        ) => play(c, received, start, end, session, budget, out),
+        Ok(Next::Empty { start, end }) => pass(entered(c, start, end)),
+        Ok(Next::Samples { start, end }) => pass(replaced(c, start, end)),
+        Ok(Next::End) => last(c, out),
+        Err(stopped) => stop(stopped.why, stopped.place, out),
     }
-    let record = record_from(session, c.at, c.end);
-    let Record::Body { kind, start, end } = record else {
-        if let Record::Refused(why) = record {
-            return stop(why, c.at, out);
-        }
-        return last(c, out);
-    };
-    take_body(c, kind, start, end, session, budget, out)
 }

@@ -49,6 +49,7 @@ pub fn image(p: Page) -> [u8; IMAGE]
     ]
 }
 
+// (Beside the ranges of a page in `registers`: an image is no page, and has no size register without SPI.)
 fn good_registers(flags: u8, ddrc: u8, portc: u8, ddrd: u8, portd: u8) -> bool
     ensures { result ≡ good_registers flags ddrc portc ddrd portd }
 {
@@ -73,6 +74,7 @@ fn good_tail(spi: bool, config: u8, size: u8, mark: u8) -> bool
 }
 
 // Whether an image is good.
+#[tactic(auto, unfolding(crate::specs::Images::is_good))]
 pub fn is_good(i: &[u8]) -> bool
     ensures { result ≡ is_good i.now }
 {

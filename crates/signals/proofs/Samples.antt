@@ -1,8 +1,12 @@
 -- A waveform uses the samples that its actions take, and reads no others. Assumes nothing.
-use Prim.Native.Nat.{ℕ}
-use mathlib.Core.Path.{◌≡◌, refl, ap}
+use Prim.Native.Nat.{ℕ, ◌+◌, ◌-◌}
+use mathlib.Core.Path.{◌≡◌, refl, ap, ◌∙◌}
 use mathlib.Core.List.{List}
+use native.Mathlib.Nat.{zero-add, le_of_eq}
 use native.Mathlib.Omega.{arith}
+use lib.ListN.{length, get_or, take, drop, length-drop}
+use lib.Seq.{take_all}
+use Rattle.std.proofs.lemmas.List.{get_or-drop}
 use borrow.Author.Tests.{eqb-true}
 use Rattle.wire.specs.Action.{release, drive_high}
 use Rattle.wire.specs.Sample.{samples_in, samplings}
@@ -66,3 +70,9 @@ wave_same p (WriteOneWireBit x) ss m us k h = refl
 wave_same p (WriteOneWireStrong x) ss m us k h = refl
 wave_same p ReadOneWire ss m us k h = kept p (one_wire.read_same p.timings ss m us k h)
 wave_same p ReadOneWireBit ss m us k h = kept p (one_wire.read_bit_same p.timings ss m us k h)
+
+-- the samples from a mark on, lent by themselves
+pub wave_from : (p : Page) (w : Waveform) (ss : List ℕ) (m : ℕ) → wave_of p w (take (length ss - m) (drop m ss)) 0 ≡ wave_of p w ss m
+wave_from p w ss m =
+    let all = take_all (length ss - m) (drop m ss) (le_of_eq (length-drop m ss)) in
+    wave_same p w _ 0 ss m (λ i l. ap (λ (us : List ℕ). get_or us (0 + i) 0) all ∙ get_or-drop m ss (0 + i) 0 ∙ ap (λ (k : ℕ). get_or ss (m + k) 0) (zero-add i))

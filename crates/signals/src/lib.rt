@@ -72,9 +72,9 @@ pub struct Sensed {
 }
 
 // What the waveform's bus measures of it.
-fn measure(page: Page, wave: Waveform, samples: &[u8], from: usize) -> Measured
-    requires { (page.size < width) × (from ≤ length samples.now) }
-    ensures { result ≡ measure_of (on_lines (wave_of page wave samples.now from)) }
+fn measure(page: Page, wave: Waveform, samples: &[u8]) -> Measured
+    requires { page.size < width }
+    ensures { result ≡ measure_of (on_lines (wave_of page wave samples.now 0)) }
 {
     let ts = page.timings;
     match wave {
@@ -91,29 +91,29 @@ fn measure(page: Page, wave: Waveform, samples: &[u8], from: usize) -> Measured
             last,
         } => pulses::measure_port_pulse(line, first, unit, wait, last),
         Waveform::Pb7Pulse { unit, wait } => pulses::measure_pb7_pulse(unit, wait),
-        Waveform::SampleLine(line) => singles::measure_sample(SAMPLE_LINE, line, samples, from),
-        Waveform::SamplePort(line) => singles::measure_sample(SAMPLE_PORT, line, samples, from),
-        Waveform::Start => i2c_bus::measure_start(samples, from),
-        Waveform::Stop => i2c_bus::measure_stop(samples, from),
-        Waveform::WriteI2c(x) => i2c_bus::measure_write(x, samples, from),
-        Waveform::ReadI2c(answer) => i2c_bus::measure_read(answer, samples, from),
+        Waveform::SampleLine(line) => singles::measure_sample(SAMPLE_LINE, line, samples),
+        Waveform::SamplePort(line) => singles::measure_sample(SAMPLE_PORT, line, samples),
+        Waveform::Start => i2c_bus::measure_start(),
+        Waveform::Stop => i2c_bus::measure_stop(),
+        Waveform::WriteI2c(x) => i2c_bus::measure_write(x, samples),
+        Waveform::ReadI2c(answer) => i2c_bus::measure_read(answer, samples),
         Waveform::Exchange => spi_bus::measure_exchange(page),
-        Waveform::ResetOneWire => one_wire_bus::measure_reset(ts, samples, from),
+        Waveform::ResetOneWire => one_wire_bus::measure_reset(ts, samples),
         Waveform::WriteOneWire(x) => one_wire_bus::measure_write(ts, 8, RELEASE, x),
         Waveform::WriteOneWireBit(x) => one_wire_bus::measure_write(ts, 1, RELEASE, x),
         Waveform::WriteOneWireStrong(x) => one_wire_bus::measure_write(ts, 8, HIGH, x),
-        Waveform::ReadOneWire => one_wire_bus::measure_read(ts, samples, from),
-        Waveform::ReadOneWireBit => one_wire_bus::measure_read_bit(ts, samples, from),
+        Waveform::ReadOneWire => one_wire_bus::measure_read(ts, samples),
+        Waveform::ReadOneWireBit => one_wire_bus::measure_read_bit(ts, samples),
     }
 }
 
 // The packet register after a waveform; an exchange alone gives another.
-fn packet_after(page: Page, wave: Waveform, samples: &[u8], from: usize) -> Register
-    requires { (page.size < width) × (from ≤ length samples.now) }
-    ensures { result ≡ (wave_of page wave samples.now from).packet }
+fn packet_after(page: Page, wave: Waveform, samples: &[u8]) -> Register
+    requires { page.size < width }
+    ensures { result ≡ (wave_of page wave samples.now 0).packet }
 {
     match wave {
-        Waveform::Exchange => spi_bus::packet_after(page, samples, from),
+        Waveform::Exchange => spi_bus::packet_after(page, samples),
         _ => page.packet,
     }
 }
@@ -124,8 +124,9 @@ pub fn sense(page: Page, wave: Waveform, samples: &[u8], from: usize) -> Sensed
     requires { (page.size < width) × (from ≤ length samples.now) }
     ensures { result ≡ sense_of (wave_of page wave samples.now from) }
 {
-    let m = measure(page, wave, samples, from);
-    let packet = packet_after(page, wave, samples, from);
+    let rest = &samples[from..];
+    let m = measure(page, wave, rest);
+    let packet = packet_after(page, wave, rest);
     Sensed {
         used: m.used,
         bytes: m.bytes,
@@ -157,10 +158,10 @@ pub fn write(out: &mut [u8], page: Page, wave: Waveform, samples: &[u8], from: u
         Waveform::Pb7Pulse { unit, wait } => pulses::put_pb7_pulse(out, unit, wait),
         Waveform::SampleLine(line) => singles::put_single(out, SAMPLE_LINE, line, 0),
         Waveform::SamplePort(line) => singles::put_single(out, SAMPLE_PORT, line, 0),
-        Waveform::Start => i2c_bus::put_start(out, samples, from),
-        Waveform::Stop => i2c_bus::put_stop(out, samples, from),
-        Waveform::WriteI2c(x) => i2c_bus::put_write(out, x, samples, from),
-        Waveform::ReadI2c(answer) => i2c_bus::put_read(out, answer, samples, from),
+        Waveform::Start => i2c_bus::put_start(out),
+        Waveform::Stop => i2c_bus::put_stop(out),
+        Waveform::WriteI2c(x) => i2c_bus::put_write(out, x),
+        Waveform::ReadI2c(answer) => i2c_bus::put_read(out, answer),
         Waveform::Exchange => spi_bus::put_exchange(out, page),
         Waveform::ResetOneWire => one_wire_bus::put_reset(out, ts),
         Waveform::WriteOneWire(x) => one_wire_bus::put_write(out, ts, 8, RELEASE, x),

@@ -10,13 +10,11 @@ ghost use Rattle.lines.specs.Lines.{driven, for_each, levels};
 ghost use Rattle.lines.specs.Waves.{measure_of};
 ghost use Rattle.spi_bus.specs.Spi.{spi_bit, spi_exchange, packet_after};
 
-use lines::{Measured, readings, several};
+use lines::actions::{driven, sampled};
+use lines::{Measured, readings};
 use packet::Register;
 use registers::{Page, parts};
-
-const SAMPLE: u8 = wire::VERB_SAMPLE_LINE;
-
-const HIGH: u8 = wire::VERB_DRIVE_HIGH;
+use wire::Action;
 
 const SCK: u8 = wire::LINE_SCK;
 
@@ -43,42 +41,39 @@ pub fn measure_exchange(page: Page) -> Measured
 }
 
 // One bit exchanged: with CPHA 0 the sample stands before the clock's return, with CPHA 1 after it.
-fn put_bit(out: &mut [u8], polarity: u8, phase: bool, bit: u8) -> usize
-    requires { (16 ≤ length out.old) × ((polarity < 2) × (bit < 2)) }
-    ensures { Written out.old 0 (bytes_of (spi_bit polarity phase bit)) out.new result }
+fn bit_row(polarity: u8, phase: bool, bit: u8) -> [Action; 4]
+    requires { (polarity < 2) × (bit < 2) }
+    ensures { result ≡ spi_bit polarity phase bit }
 {
-    let away = lines::verb_for(HIGH, 1 - polarity);
-    let back = lines::verb_for(HIGH, polarity);
-    let data = lines::verb_for(HIGH, bit);
+    let away = driven(SCK, 1 - polarity);
+    let back = driven(SCK, polarity);
+    let data = driven(MOSI, bit);
+    let sample = sampled(MISO);
     if phase {
-        return several::put_four(out, away, SCK, data, MOSI, back, SCK, SAMPLE, MISO);
+        [away, data, back, sample]
+    } else {
+        [data, away, sample, back]
     }
-    several::put_four(out, data, MOSI, away, SCK, SAMPLE, MISO, back, SCK)
 }
 
-// SCK to CPOL, and then n bits exchanged: whole bytes, eight bits each, and those that are left.
+// SCK to CPOL, and then n bits exchanged: whole bytes, eight bits each, and those that are left. (Each bit by itself out of the
+// register would take 55.1 instructions for a byte of exchanges, not 46.7.)
 fn put_bits(out: &mut [u8], r: Register, n: u8, high: bool, polarity: u8, phase: bool) -> usize
     requires { (n ≤ width) × ((polarity < 2) × (length (bytes_of (driven sck polarity ∷ for_each (spi_bit polarity phase) (sent n high r))) ≤ length out.old)) }
     ensures { Written out.old 0 (bytes_of (driven sck polarity ∷ for_each (spi_bit polarity phase) (sent n high r))) out.new result }
 {
-    let mut at = wire::put_action(out, lines::verb_for(HIGH, polarity), SCK, 0);
-    let mut i: u8 = 0;
-    while 8 <= n - i {
-        let byte = packet::byte_to_send(r, i, high);
-        let mut j: u8 = 0;
-        while j < 8 {
+    let mut at = wire::put_actions(out, &[driven(SCK, polarity)]);
+    let whole = n / 8;
+    for k in 0..whole {
+        let byte = packet::byte_to_send(r, 8 * k, high);
+        for j in 0..8 {
             let bit = packet::bit_of_byte(byte, j, high);
-            let k = put_bit(&mut out[at..], polarity, phase, bit);
-            at += k;
-            j += 1;
+            at += wire::put_actions(&mut out[at..], &bit_row(polarity, phase, bit));
         }
-        i += 8;
     }
-    while i < n {
+    for i in 8 * whole..n {
         let bit = packet::bit_within(r, i, high);
-        let k = put_bit(&mut out[at..], polarity, phase, bit);
-        at += k;
-        i += 1;
+        at += wire::put_actions(&mut out[at..], &bit_row(polarity, phase, bit));
     }
     at
 }
@@ -97,32 +92,28 @@ pub fn put_exchange(out: &mut [u8], page: Page) -> usize
 }
 
 // The shift register after an exchange of n bits: the lowest byte has the last eight levels in order, and so on upward.
-// The caller shows that the register has so many bits and that the mark is not past the samples' end.
-fn exchange(r: Register, samples: &[u8], from: usize, n: u8, high: bool) -> Register
-    requires { (n ≤ width) × (from ≤ length samples.now) }
-    ensures { result ≡ exchanged width high (levels samples.now from n) r }
+// The caller shows that the register has so many bits.
+fn exchange(r: Register, samples: &[u8], n: u8, high: bool) -> Register
+    requires { n ≤ width }
+    ensures { result ≡ exchanged width high (levels samples.now 0 n) r }
 {
     let mut q = r;
-    let mut i: usize = packet::BYTES;
     let mut end = n;
-    while 0 < i {
-        i -= 1;
+    for i in (0..packet::BYTES).rev() {
         let first = packet::above_byte(end);
-        let b = readings::number_of(samples, from, n, first, end, high);
-        q[i] = b;
+        q[i] = readings::number_of(samples, n, first, end, high);
         end = first;
     }
     q
 }
 
-// The packet register after an exchange. The caller shows that the size register is in range and that the mark is not past the
-// samples' end.
-pub fn packet_after(page: Page, samples: &[u8], from: usize) -> Register
-    requires { (page.size < width) × (from ≤ length samples.now) }
-    ensures { result ≡ packet_after page samples.now from }
+// The packet register after an exchange. The caller shows that the size register is in range.
+pub fn packet_after(page: Page, samples: &[u8]) -> Register
+    requires { page.size < width }
+    ensures { result ≡ packet_after page samples.now 0 }
 {
     let r = page.packet;
     let n = parts::bits_of(page.size);
     let high = parts::high_first(page.config);
-    exchange(r, samples, from, n, high)
+    exchange(r, samples, n, high)
 }

@@ -1,10 +1,10 @@
 -- Laws of the parts of a row of bytes: read where they stand, joined, and copied. Assumes nothing.
-use Prim.Native.Nat.{ℕ, zero, suc, ◌+◌, ◌-◌, ◌≤◌}
+use Prim.Native.Nat.{ℕ, zero, suc, ◌+◌, ◌≤◌}
 use mathlib.Core.Path.{◌≡◌, sym, ap, ◌∙◌}
 use mathlib.Core.List.{List, [], ◌∷◌, ◌++◌, append-nil}
 use native.Mathlib.Nat.{add-zero}
 use native.Mathlib.Omega.{arith}
-use lib.ListN.{get_or, length, take, drop, length-take, length-drop, take-append-drop, drop_of_length-le}
+use lib.ListN.{get_or, length, take, drop, take-append-drop, drop_of_length-le}
 use lib.Seq.{drop-cons, drop-drop, take_at, drop_at, get_or_at}
 use Rattle.wire.specs.Buffer.{Written}
 use Rattle.wire.proofs.Buffers.{overwrite_right}
@@ -36,10 +36,3 @@ bytes_first i at (suc n) h =
 pub written_whole : (l xs : List ℕ) {r : List ℕ} {next : ℕ} → length l ≡ length xs → Written l 0 xs r next → r ≡ xs
 written_whole l xs e w =
     w.bytes ∙ (overwrite_right l 0 xs).parts (omega arith) ∙ ap (λ (r : List ℕ). xs ++ r) (drop_of_length-le l {i = 0 + length xs} (omega arith)) ∙ append-nil xs
-
--- a part copied into a row of its size
-pub piece_copied : (i l : List ℕ) {r : List ℕ} (at n : ℕ) {next : ℕ} → length l ≡ n → at + n ≤ length i → Written l 0 (take (at + n - at) (drop at i)) r next → r ≡ piece i at n
-piece_copied i l at n e h w =
-    let d : at + n - at ≡ n = omega arith in
-    let m : length l ≡ length (take (at + n - at) (drop at i)) = e ∙ sym (simp (length-take, length-drop) (omega arith)) in
-    written_whole l (take (at + n - at) (drop at i)) m w ∙ ap (λ (k : ℕ). take k (drop at i)) d

@@ -23,10 +23,6 @@ pub record WaitPut (w : Wait) (held : List ℕ) (pending : Bool) (at : ℕ) (o x
   pub wrote : Written o at (wait_bytes w held pending) x n
   pub sized : length held ≡ held_bytes
 
-pub record StatePut (s : State) (o x : List ℕ) (n : ℕ) : Type 0 where
-  pub wrote : Written o 0 (state_bytes s) x n
-  pub sized : AllSized s
-
 -- the bytes are a state's
 pub record Stored (s : State) (x : List ℕ) : Type 0 where
   pub bytes : x ≡ state_bytes s

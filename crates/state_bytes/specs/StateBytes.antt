@@ -1,5 +1,5 @@
 -- The bytes of a state (include/bridge.h), and the state of bytes.
-use Rattle.std.specs.Prelude.{ℕ, ◌+◌, ◌≡◌, Bool, true, false, cond, ◌&&◌, ◌||◌, List, [], ◌∷◌, ◌++◌, eqb, leb, get_or, length, take, drop}
+use Rattle.std.specs.Prelude.{ℕ, ◌+◌, ◌≡◌, Bool, true, false, cond, ◌&&◌, ◌||◌, List, [], ◌∷◌, ◌++◌, Option, Some, None, eqb, leb, get_or, length, take, drop}
 use Rattle.packet.specs.Packet.{register_bytes}
 use Rattle.registers.specs.Registers.{timing_bytes, image_bytes, serial_bytes, held_bytes}
 use Rattle.registers.specs.declared.Page.{Page}
@@ -143,6 +143,9 @@ state_in b = record { page = page_in b; shared = shared_in b; wait = wait_of (ge
 -- state"
 unfoldable pub is_state : List ℕ → Bool
 is_state b = eqb (length b) state_size && (leb (get_or b at_configured 0) 1 && leb (get_or b at_drop 0) 1 && leb (get_or b at_wait 0) 17 && (leb 15 (get_or b at_wait 0) || eqb (get_or b at_left 0) 0))
+
+abbrev pub decoded : List ℕ → Option State
+decoded b = cond (is_state b) (Some (state_in b)) None
 
 -- THEOREM (proofs/Back.antt, `state_back`): the bytes of a state whose arrays have their sizes are a state's, this one's
 pub record AllSized (s : State) : Type 0 where

@@ -1,8 +1,6 @@
 // A state read from its bytes.
 ghost use Rattle.std.specs.Prelude.{◌≡◌, ◌+◌, ◌≤◌, length};
-ghost use Rattle.packet.specs.Packet.{register_bytes};
-ghost use Rattle.registers.specs.Registers.{timing_bytes, image_bytes, serial_bytes, held_bytes};
-ghost use Rattle.state_bytes.specs.StateBytes.{state_size, piece, wait_of, page_in, shared_in, state_in, is_state};
+ghost use Rattle.state_bytes.specs.StateBytes.{piece, wait_of, page_in, shared_in, state_in, is_state, decoded};
 
 use registers::{Operand, Page, PortRegister, Shared, State, Wait};
 
@@ -32,7 +30,7 @@ const AT_DROP: usize = AT_HELD + registers::HELD;
 // How many bytes a state is.
 pub const SIZE: usize = AT_DROP + 1;
 
-// What is waited for, by its number; nothing for a number that is none.
+// What is waited for, by its number in include/bridge.h; nothing for a number that is none.
 fn wait_of(code: u8, left: u8) -> Wait
     ensures { result ≡ wait_of code left }
 {
@@ -65,64 +63,20 @@ fn wait_of(code: u8, left: u8) -> Wait
     }
 }
 
-// A part of the bytes as an array, one function for each size. The caller shows that it lies within them.
-fn packet_at(bytes: &[u8], at: usize) -> packet::Register
-    requires { at + register_bytes ≤ length bytes.now }
-    ensures { result ≡ piece bytes.now at register_bytes }
+// A part of the bytes as an array. The caller shows that it lies within them.
+fn part<const N: usize>(bytes: &[u8], at: usize) -> [u8; N]
+    requires { at + N ≤ length bytes.now }
+    ensures { result ≡ piece bytes.now at N }
 {
-    let mut r = [0u8; packet::BYTES];
-    let end = at + packet::BYTES;
-    wire::put_bytes(&mut r, 0, &bytes[at..end]);
-    r
+    let mut part = [0u8; N];
+    part.copy_from_slice(&bytes[at..at + N]);
+    part
 }
 
-fn timings_at(bytes: &[u8], at: usize) -> [u8; registers::TIMINGS]
-    requires { at + timing_bytes ≤ length bytes.now }
-    ensures { result ≡ piece bytes.now at timing_bytes }
-{
-    let mut r = [0u8; registers::TIMINGS];
-    let end = at + registers::TIMINGS;
-    wire::put_bytes(&mut r, 0, &bytes[at..end]);
-    r
-}
-
-fn eprom_at(bytes: &[u8], at: usize) -> [u8; registers::IMAGE]
-    requires { at + image_bytes ≤ length bytes.now }
-    ensures { result ≡ piece bytes.now at image_bytes }
-{
-    let mut r = [0u8; registers::IMAGE];
-    let end = at + registers::IMAGE;
-    wire::put_bytes(&mut r, 0, &bytes[at..end]);
-    r
-}
-
-fn serial_at(bytes: &[u8], at: usize) -> [u8; registers::SERIAL]
-    requires { at + serial_bytes ≤ length bytes.now }
-    ensures { result ≡ piece bytes.now at serial_bytes }
-{
-    let mut r = [0u8; registers::SERIAL];
-    let end = at + registers::SERIAL;
-    wire::put_bytes(&mut r, 0, &bytes[at..end]);
-    r
-}
-
-fn held_at(bytes: &[u8], at: usize) -> [u8; registers::HELD]
-    requires { at + held_bytes ≤ length bytes.now }
-    ensures { result ≡ piece bytes.now at held_bytes }
-{
-    let mut r = [0u8; registers::HELD];
-    let end = at + registers::HELD;
-    wire::put_bytes(&mut r, 0, &bytes[at..end]);
-    r
-}
-
-// The registers. The caller shows that the bytes are as many as a state's.
-fn page(bytes: &[u8]) -> Page
-    requires { length bytes.now ≡ state_size }
+// The registers.
+fn page(bytes: &[u8; SIZE]) -> Page
     ensures { result ≡ page_in bytes.now }
 {
-    let packet = packet_at(bytes, AT_PACKET);
-    let timings = timings_at(bytes, AT_TIMINGS);
     Page {
         flags: bytes[0],
         error: bytes[1],
@@ -135,27 +89,39 @@ fn page(bytes: &[u8]) -> Page
         config: bytes[8],
         configured: bytes[AT_CONFIGURED] == 1,
         size: bytes[10],
-        packet,
-        timings,
+        packet: part(bytes, AT_PACKET),
+        timings: part(bytes, AT_TIMINGS),
     }
 }
 
-// What is no register. The caller shows that the bytes are as many as a state's.
-fn shared(bytes: &[u8]) -> Shared
-    requires { length bytes.now ≡ state_size }
+// What is no register.
+fn shared(bytes: &[u8; SIZE]) -> Shared
     ensures { result ≡ shared_in bytes.now }
 {
-    let eprom = eprom_at(bytes, AT_EPROM);
-    let serial = serial_at(bytes, AT_SERIAL);
     Shared {
-        eprom,
+        eprom: part(bytes, AT_EPROM),
         cycles: bytes[AT_CYCLES],
         version: bytes[AT_VERSION],
-        serial,
+        serial: part(bytes, AT_SERIAL),
+    }
+}
+
+// The state that as many bytes as a state's are read as.
+#[tactic(auto, unfolding(crate::specs::StateBytes::state_in))]
+pub fn state_of(bytes: &[u8; SIZE]) -> State
+    ensures { result ≡ state_in bytes.now }
+{
+    State {
+        page: page(bytes),
+        shared: shared(bytes),
+        wait: wait_of(bytes[AT_WAIT], bytes[AT_LEFT]),
+        held: part(bytes, AT_HELD),
+        drop: bytes[AT_DROP] == 1,
     }
 }
 
 // Whether bytes are a state's.
+#[tactic(auto, unfolding(crate::specs::StateBytes::is_state))]
 pub fn is_state(bytes: &[u8]) -> bool
     ensures { result ≡ is_state bytes.now }
 {
@@ -169,20 +135,13 @@ pub fn is_state(bytes: &[u8]) -> bool
     (configured <= 1) & (drop <= 1) & (code <= 17) & ((15 <= code) | (left == 0))
 }
 
-// The state of bytes. The caller shows that they are as many as a state's.
-pub fn state_of(bytes: &[u8]) -> State
-    requires { length bytes.now ≡ state_size }
-    ensures { result ≡ state_in bytes.now }
+// The state of bytes, where they are a state's.
+#[tactic(auto, using(crate::proofs::Back::state_facts))]
+pub fn decoded(bytes: &[u8]) -> Option<State>
+    ensures { result ≡ decoded bytes.now }
 {
-    let page = page(bytes);
-    let shared = shared(bytes);
-    let wait = wait_of(bytes[AT_WAIT], bytes[AT_LEFT]);
-    let held = held_at(bytes, AT_HELD);
-    State {
-        page,
-        shared,
-        wait,
-        held,
-        drop: bytes[AT_DROP] == 1,
+    if !is_state(bytes) {
+        return None;
     }
+    Some(state_of(bytes.as_array().unwrap()))
 }

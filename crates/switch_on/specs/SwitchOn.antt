@@ -1,5 +1,5 @@
 -- What switch-on gives (01, "Switch-on"): the bridge, the actions, and the settings used; refusals 11 and 3.
-use Rattle.std.specs.Prelude.{ℕ, Bool, false, cond, ◌&&◌, List, [], ◌∷◌, ◌++◌, eqb, get_or, length}
+use Rattle.std.specs.Prelude.{ℕ, Bool, false, cond, ◌&&◌, List, [], ◌∷◌, ◌++◌, eqb, get_or, length, Ok, Err}
 use Rattle.wire.specs.Action.{Action, bytes_of, cs, ss}
 use Rattle.wire.specs.Buffer.{overwrite, fits_in}
 use Rattle.packet.specs.Register.{zeros}
@@ -13,8 +13,6 @@ use Rattle.settings.specs.Images.{is_good, page_of}
 use Rattle.refusals.specs.declared.Refusal.{Refusal}
 use Rattle.refusals.specs.declared.Refusal.TheVariants.{Actions, Factory}
 pub use Rattle.switch_on.specs.declared.Device.{Device}
-pub use Rattle.switch_on.specs.declared.Outcome.{Outcome}
-pub use Rattle.switch_on.specs.declared.Outcome.TheVariants.{On, Refused}
 pub use Rattle.switch_on.specs.declared.SwitchedOn.{SwitchedOn}
 
 -- the image used: "the stored, if good with AUTOLOAD_EN set, else the factory one"
@@ -57,7 +55,7 @@ switched x buffer = record { answer = x; buffer = buffer }
 
 -- "with zero counts and lent memory untouched"
 abbrev pub refusal : Refusal → SwitchedOn
-refusal why = record { bridge = record { state = zero_state }; outcome = Refused why; actions = 0 }
+refusal why = record { bridge = record { state = zero_state }; outcome = Err why; actions = 0 }
 
 abbrev pub on_state : List ℕ → List ℕ → Device → State
 on_state stored factory d = state_of (on_page stored factory) (eprom_of stored factory) d
@@ -81,6 +79,6 @@ unfoldable pub switch_of : List ℕ → List ℕ → Device → List ℕ → ℕ
 switch_of stored factory d buffer mark =
     cond (is_on stored factory (length buffer) mark)
     (switched
-    (record { bridge = record { state = on_state stored factory d }; outcome = On; actions = length (on_actions (on_page stored factory)) })
+    (record { bridge = record { state = on_state stored factory d }; outcome = Ok tt; actions = length (on_actions (on_page stored factory)) })
     (overwrite buffer mark (bytes_of (on_actions (on_page stored factory)))))
     (switched (refusal (reason_for factory)) buffer)

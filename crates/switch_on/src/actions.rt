@@ -1,7 +1,9 @@
 // The actions of switch-on: the ports with the image's values, then CS or SS high.
-ghost use Rattle.std.specs.Prelude.{◌≡◌, ◌≤◌, length};
+ghost use Rattle.std.specs.Prelude.{◌≡◌, ◌≤◌, [], ◌∷◌, length};
+ghost use Rattle.std.specs.Option.{option_map_or};
 ghost use Rattle.wire.specs.Action.{bytes_of};
 ghost use Rattle.wire.specs.Buffer.{Written};
+ghost use Rattle.lines.specs.Lines.{high};
 ghost use Rattle.switch_on.specs.SwitchOn.{select_actions, on_actions};
 
 use registers::Page;
@@ -12,31 +14,39 @@ const PORTS: usize = 6 * wire::ACTION_BYTES;
 
 pub(crate) const MOST: usize = 7 * wire::ACTION_BYTES;
 
+// The line that goes high for the interface selected, if it has one.
+fn select_line(flags: u8) -> Option<u8>
+    ensures { option_map_or (λ line. high line ∷ []) result [] ≡ select_actions flags }
+{
+    if i2c_selected(flags) {
+        Some(wire::LINE_CS)
+    } else if spi_selected(flags) {
+        Some(wire::LINE_SS)
+    } else {
+        None
+    }
+}
+
 // How many bytes the actions are.
 pub(crate) fn size(page: Page) -> usize
     ensures { result ≡ length (bytes_of (on_actions page)) }
 {
-    if i2c_selected(page.flags) {
-        return MOST;
+    match select_line(page.flags) {
+        Some(_) => MOST,
+        None => PORTS,
     }
-    if spi_selected(page.flags) {
-        return MOST;
-    }
-    PORTS
 }
 
 // Writes CS or SS high, or nothing, at the start of the unused part of a lent buffer, for which the caller shows the room.
+#[tactic(auto, using(wire::proofs::Buffers::written_none))]
 fn put_select(out: &mut [u8], flags: u8) -> usize
     requires { length (bytes_of (select_actions flags)) ≤ length out.old }
     ensures { Written out.old 0 (bytes_of (select_actions flags)) out.new result }
 {
-    if i2c_selected(flags) {
-        return wire::put_action(out, wire::VERB_DRIVE_HIGH, wire::LINE_CS, 0);
+    match select_line(flags) {
+        Some(line) => wire::put_action(out, wire::VERB_DRIVE_HIGH, line, 0),
+        None => 0,
     }
-    if spi_selected(flags) {
-        return wire::put_action(out, wire::VERB_DRIVE_HIGH, wire::LINE_SS, 0);
-    }
-    0
 }
 
 // Writes the actions at the start of the unused part of a lent buffer, for which the caller shows the room.

@@ -8,6 +8,7 @@ use registers::IMAGE;
 use registers::parts::autoload_on;
 
 // The image that is used: the stored one if it is good with autoload on, else the factory one.
+#[tactic(auto, unfolding(crate::specs::SwitchOn::used_of))]
 pub(crate) fn used<'a>(stored: &'a [u8], factory: &'a [u8]) -> &'a [u8]
     ensures { result.now ≡ used_of stored.now factory.now }
 {
@@ -22,16 +23,17 @@ fn whole(i: &[u8]) -> [u8; IMAGE]
     requires { length i.now ≡ image_bytes }
     ensures { result ≡ i.now }
 {
-    [i[0], i[1], i[2], i[3], i[4], i[5], i[6], i[7], i[8], i[9]]
+    <[u8; IMAGE]>::try_from(i).unwrap()
 }
 
 // What the EPROM holds. The caller shows that the factory image is good.
+#[tactic(auto, using(settings::proofs::Good::good_size))]
 pub(crate) fn eprom(stored: &[u8], factory: &[u8]) -> [u8; IMAGE]
     requires { is_good factory.now ≡ true }
     ensures { result ≡ eprom_of stored.now factory.now }
 {
-    if stored.len() == IMAGE {
-        return whole(stored);
+    match <[u8; IMAGE]>::try_from(stored) {
+        Ok(image) => image,
+        Err(_) => whole(factory),
     }
-    whole(factory)
 }

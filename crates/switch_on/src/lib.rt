@@ -1,10 +1,10 @@
 // Switch-on: a bridge made from stored settings.
 #![tactic(auto)]
 
-ghost use Rattle.std.specs.Prelude.{◌≡◌, []};
+ghost use Rattle.std.specs.Prelude.{◌≡◌, [], true, false, IfOk, IfErr};
 ghost use Rattle.packet.specs.Register.{zeros};
 ghost use Rattle.switch_on.specs.Start.{starting};
-ghost use Rattle.switch_on.specs.SwitchOn.{state_of, zero_state, switched, refusal, reason_for, switch_of, settings_of};
+ghost use Rattle.switch_on.specs.SwitchOn.{state_of, zero_state, used_of, is_on, reason_for, switched, refusal, switch_of, settings_of};
 
 mod actions;
 mod images;
@@ -21,18 +21,12 @@ pub struct Device {
     pub serial: [u8; registers::SERIAL],
 }
 
-// Whether the bridge is on.
-#[derive(Clone, Copy)]
-pub enum Outcome {
-    On,
-    Refused(Refusal),
-}
-
-// What switch-on answers: the bridge, the outcome, and how many actions were written.
+// What switch-on answers: the bridge, whether it is on or why not, and how many actions were written. (The Result stands beside them,
+// since a refused switch-on answers them too.)
 #[derive(Clone, Copy)]
 pub struct SwitchedOn {
     pub bridge: Bridge,
-    pub outcome: Outcome,
+    pub outcome: Result<(), Refusal>,
     pub actions: usize,
 }
 
@@ -75,7 +69,7 @@ fn refused(why: Refusal) -> SwitchedOn
     let s = zero();
     SwitchedOn {
         bridge: Bridge { state: s },
-        outcome: Outcome::Refused(why),
+        outcome: Err(why),
         actions: 0,
     }
 }
@@ -100,30 +94,34 @@ fn state(page: Page, eprom: [u8; registers::IMAGE], device: Device) -> State
     }
 }
 
-// The part of one of the two images that is used; where switch-on is refused, the empty front part of the factory image. The
-// room is the size of the buffer for the actions, with its mark.
-pub fn settings<'a>(stored: &'a [u8], factory: &'a [u8], room: usize, mark: usize) -> &'a [u8]
-    ensures { result.now ≡ settings_of stored.now factory.now room mark }
+// The image that is used, or why there is none: the factory image is not good, or else the actions do not fit. The room is the
+// size of the buffer for the actions, with its mark.
+fn chosen<'a>(
+    stored: &'a [u8],
+    factory: &'a [u8],
+    room: usize,
+    mark: usize,
+) -> Result<&'a [u8], Refusal>
+    ensures on { IfOk result (λ i. (is_on stored.now factory.now room mark ≡ true) × (i.now ≡ used_of stored.now factory.now)) }
+    ensures off { IfErr result (λ why. (is_on stored.now factory.now room mark ≡ false) × (why ≡ reason_for factory.now)) }
 {
     if !settings::is_good(factory) {
-        return &factory[..0];
+        return Err(Refusal::Factory);
     }
     let used = images::used(stored, factory);
     let page = settings::page(used);
     if !wire::fits(room, mark, actions::size(page)) {
-        return &factory[..0];
+        return Err(Refusal::Actions);
     }
-    used
+    Ok(used)
 }
 
-// Why there are no settings: the factory image is not good, or else the actions do not fit.
-fn reason(factory: &[u8]) -> Refusal
-    ensures { result ≡ reason_for factory.now }
+// The part of one of the two images that is used; where switch-on is refused, the empty front part of the factory image.
+#[tactic(auto, unfolding(crate::specs::SwitchOn::settings_of))]
+pub fn settings<'a>(stored: &'a [u8], factory: &'a [u8], room: usize, mark: usize) -> &'a [u8]
+    ensures { result.now ≡ settings_of stored.now factory.now room mark }
 {
-    if settings::is_good(factory) {
-        return Refusal::Actions;
-    }
-    Refusal::Factory
+    chosen(stored, factory, room, mark).unwrap_or(&factory[..0])
 }
 
 // Switches the bridge on, by the settings used: its actions go to a lent buffer from a mark on.
@@ -136,17 +134,17 @@ pub fn switch_on<'a>(
 ) -> SwitchedOn
     ensures { switched result buffer.new ≡ switch_of stored.now factory.now device buffer.old mark }
 {
-    let used = settings(stored, factory, buffer.len(), mark);
-    if used.len() == 0 {
-        return refused(reason(factory));
-    }
+    let used = match chosen(stored, factory, buffer.len(), mark) {
+        Err(why) => return refused(why),
+        Ok(used) => used,
+    };
     let page = settings::page(used);
     let eprom = images::eprom(stored, factory);
     let s = state(page, eprom, device);
     let n = actions::put(&mut buffer[mark..], page);
     SwitchedOn {
         bridge: Bridge { state: s },
-        outcome: Outcome::On,
+        outcome: Ok(()),
         actions: n / wire::ACTION_BYTES,
     }
 }

@@ -7,7 +7,7 @@ use native.Mathlib.Omega.{arith}
 use lib.ListN.{length}
 use Rattle.wire.specs.Buffer.{Written}
 use Rattle.wire.proofs.Buffers.{overwrite_length}
-use Rattle.text.specs.Lists.{Read, Stop, Assembled, read, prefixed, Reads}
+use Rattle.text.specs.Lists.{Read, Outcome, Assembled, read, prefixed, Reads}
 use Rattle.text.proofs.Reading.{reads_none, reads_prefixed}
 
 -- at the loop's head: o and x are the buffer at the start and now; there are turns enough for what is left, and reading the rest
@@ -33,7 +33,7 @@ module _ {whole : Read} {o : List ℕ} {from : ℕ} {rest : ℕ → Read} {left 
   last_turn d e {y} {r} q = by_turn (λ n h f. f y r (rw (e n) q))
 
   -- .. and reads nothing
-  pub loop_ends : (w : Stop) → ((n : ℕ) → rest (suc n) ≡ read [] w) → Reads whole o from x (record { size = size; stop = w })
+  pub loop_ends : (w : Outcome) → ((n : ℕ) → rest (suc n) ≡ read [] w) → Reads whole o from x (record { size = size; outcome = w })
   loop_ends w e = last_turn (read [] w) e (reads_none x size w (omega (arith, l.within, l.same)))
 
   -- the turn writes xs, and less is left after it

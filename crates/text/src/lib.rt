@@ -19,18 +19,18 @@ pub enum Expected {
     Room,
 }
 
-// Why reading stopped: all is read, or something is wrong at a place.
+// What is wrong with a script: what was expected at a place.
 #[derive(Clone, Copy)]
-pub enum Stop {
-    Done,
-    Wrong { place: usize, expected: Expected },
+pub struct Wrong {
+    pub place: usize,
+    pub expected: Expected,
 }
 
-// How many bytes of a buffer hold what was read, and why reading stopped.
+// How many bytes of a buffer hold what was read, also where reading stopped because something is wrong.
 #[derive(Clone, Copy)]
 pub struct Assembled {
     pub size: usize,
-    pub stop: Stop,
+    pub outcome: Result<(), Wrong>,
 }
 
 // A line and a column, both from 1.

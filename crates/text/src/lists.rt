@@ -3,83 +3,66 @@ ghost use Rattle.std.specs.Prelude.{◌≡◌, ◌+◌, ◌-◌, ◌≤◌, leng
 ghost use Rattle.wire.specs.Buffer.{Written};
 ghost use Rattle.text.specs.Lists.{with_count, repeated, begun, item_at, list_of, Reads};
 
-use crate::numbers::Hex;
 use crate::words::{Word, word_at};
-use crate::{Assembled, Expected, Stop, numbers};
+use crate::{Assembled, Expected, Wrong, numbers};
 
-// An item of a list: so many of a byte, with the place after it; the list's end; or what is wrong.
+// An item of a list: so many of a byte, with the place after it.
 #[derive(Clone, Copy)]
-pub(crate) enum Item {
-    Bytes { byte: u8, count: usize, next: usize },
-    End,
-    Wrong { place: usize, expected: Expected },
+pub(crate) struct Run {
+    byte: u8,
+    count: usize,
+    next: usize,
 }
 
-// The count of a byte, which the word has to be. The caller shows that the word lies in the text.
-fn with_count(text: &[u8], byte: u8, w: Word) -> Item
-    requires { (w.start ≤ w.end) × (w.end ≤ length text.now) }
+// The count of a byte, which the word has to be.
+fn with_count(text: &[u8], byte: u8, w: Word) -> Result<Run, Wrong>
     ensures { result ≡ with_count text.now byte w }
 {
-    let place = w.start;
-    let next = w.end;
-    let n = numbers::count(&text[place..next]);
-    if n == 0 {
-        return Item::Wrong {
-            place,
-            expected: Expected::Count,
-        };
-    }
-    Item::Bytes {
+    let count = numbers::count(w.bytes(text)).ok_or(Wrong {
+        place: w.start,
+        expected: Expected::Count,
+    })?;
+    Ok(Run {
         byte,
-        count: n,
-        next,
-    }
+        count,
+        next: w.end,
+    })
 }
 
 // A byte that ends at a place, and the word behind it: `x` says that a count follows.
-fn repeated(text: &[u8], byte: u8, end: usize, w: Word) -> Item
-    requires { (w.start ≤ w.end) × (w.end ≤ length text.now) }
+fn repeated(text: &[u8], byte: u8, end: usize, w: Word) -> Result<Run, Wrong>
     ensures { result ≡ repeated text.now byte end w }
 {
-    let from = w.start;
-    let to = w.end;
-    if check::same(&text[from..to], b"x") {
-        return with_count(text, byte, word_at(text, to));
+    if check::same(w.bytes(text), b"x") {
+        return with_count(text, byte, word_at(text, w.end));
     }
-    Item::Bytes {
+    Ok(Run {
         byte,
         count: 1,
         next: end,
-    }
+    })
 }
 
-// An item by its first word. The caller shows that the word lies in the text.
-fn begun(text: &[u8], w: Word) -> Item
-    requires { (w.start ≤ w.end) × (w.end ≤ length text.now) }
+// An item by its first word; where there is no word, the list ends.
+fn begun(text: &[u8], w: Word) -> Result<Option<Run>, Wrong>
     ensures { result ≡ begun text.now w }
 {
-    let from = w.start;
-    let to = w.end;
-    if from == to {
-        return Item::End;
+    if w.is_none() {
+        return Ok(None);
     }
-    let first = numbers::byte_of(&text[from..to]);
-    match first {
-        Hex::Byte(b) => repeated(text, b, to, word_at(text, to)),
-        Hex::None => Item::Wrong {
-            place: from,
-            expected: Expected::Byte,
-        },
-    }
+    let byte = numbers::byte_of(w.bytes(text)).ok_or(Wrong {
+        place: w.start,
+        expected: Expected::Byte,
+    })?;
+    let run = repeated(text, byte, w.end, word_at(text, w.end))?;
+    Ok(Some(run))
 }
 
 // The item at a place of the text.
-fn item_at(text: &[u8], at: usize) -> Item
-    requires { at ≤ length text.now }
+fn item_at(text: &[u8], at: usize) -> Result<Option<Run>, Wrong>
     ensures { result ≡ item_at text.now at }
 {
-    let w = word_at(text, at);
-    begun(text, w)
+    begun(text, word_at(text, at))
 }
 
 // So many of a byte to a buffer, from a place on. The caller shows that they fit.
@@ -87,45 +70,46 @@ fn fill(body: &mut [u8], at: usize, byte: u8, count: usize) -> usize
     requires { at + count ≤ length body.old }
     ensures { Written body.old at (replicate count byte) body.new result }
 {
-    let mut i: usize = 0;
-    while i < count {
-        body[at + i] = byte;
-        i += 1;
-    }
-    at + i
+    let end = at + count;
+    body[at..end].fill(byte);
+    end
 }
 
-// The list from a place of the text on, to a buffer from a place on. The caller shows that both places are there.
+// The list from a place of the text on, to a buffer from a place on. The caller shows that the buffer has that place.
+// (The loop goes by places of the text, as the definition does: an item read says where the next begins.)
 pub fn list(text: &[u8], at: usize, body: &mut [u8], from: usize) -> Assembled
-    requires { (at ≤ length text.now) × (from ≤ length body.old) }
+    requires { from ≤ length body.old }
     ensures { Reads (list_of text.now (length body.old - from) at) body.old from body.new result }
 {
     let mut p = at;
     let mut size = from;
     loop {
-        let item = item_at(text, p);
-        match item {
-            Item::Bytes { byte, count, next } => {
-                if body.len() - size < count {
-                    let stop = Stop::Wrong {
-                        place: p,
-                        expected: Expected::Room,
-                    };
-                    return Assembled { size, stop };
-                }
-                size = fill(body, size, byte, count);
-                p = next;
-            }
-            Item::End => {
+        let run = match item_at(text, p) {
+            Ok(Some(run)) => run,
+            Ok(None) => {
                 return Assembled {
                     size,
-                    stop: Stop::Done,
+                    outcome: Ok(()),
                 };
             }
-            Item::Wrong { place, expected } => {
-                let stop = Stop::Wrong { place, expected };
-                return Assembled { size, stop };
+            Err(wrong) => {
+                return Assembled {
+                    size,
+                    outcome: Err(wrong),
+                };
             }
+        };
+        if body.len() - size < run.count {
+            let wrong = Wrong {
+                place: p,
+                expected: Expected::Room,
+            };
+            return Assembled {
+                size,
+                outcome: Err(wrong),
+            };
         }
+        size = fill(body, size, run.byte, run.count);
+        p = run.next;
     }
 }

@@ -2,22 +2,19 @@
 ghost use Rattle.std.specs.Prelude.{◌≡◌};
 ghost use Rattle.text.specs.Named.{row_named};
 
-// The row of the command that a word names, ROWS if there is none.
-pub fn row_named(word: &[u8]) -> usize
+// The row of the command that a word names, blanks at its end or not, up to the names' width: `row_named` says so of any word.
+pub fn row_named(word: &[u8]) -> Option<usize>
     ensures { result ≡ row_named word.now }
 {
     if names::NAME_WIDTH < word.len() {
-        return names::ROWS;
+        return None;
     }
     let mut padded = [b' '; names::NAME_WIDTH];
     padded[..word.len()].copy_from_slice(word);
-    let mut row: usize = 0;
-    while row < names::ROWS {
-        let name = names::name(row);
-        if check::same(&padded, &name) {
-            return row;
+    for row in 0..names::ROWS {
+        if check::same(&padded, &names::name(row)) {
+            return Some(row);
         }
-        row += 1;
     }
-    row
+    None
 }

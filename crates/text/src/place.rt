@@ -8,20 +8,16 @@ use crate::Position;
 pub fn position(text: &[u8], place: usize) -> Position
     ensures { result ≡ position_of text.now place }
 {
+    let before = text.get(..place).unwrap_or(text);
     let mut line: usize = 1;
     let mut column: usize = 1;
-    let mut i: usize = 0;
-    while i < place {
-        if text.len() <= i {
-            return Position { line, column };
-        }
-        if text[i] == b'\n' {
+    for b in before {
+        if *b == b'\n' {
             line += 1;
             column = 1;
         } else {
             column += 1;
         }
-        i += 1;
     }
     Position { line, column }
 }

@@ -1,54 +1,71 @@
 // The words of a script.
-ghost use Rattle.std.specs.Prelude.{◌≡◌};
-ghost use Rattle.text.specs.Words.{is_in, past, word_at};
+ghost use Rattle.std.specs.Prelude.{◌≡◌, ◌==◌, ℕ, Bool, ◌<◌};
+ghost use Rattle.text.specs.Words.{is_blank, in_word, in_line, past, word_at, text_of};
 
-// The bytes between words, those of a word, and those of a line.
-#[derive(Clone, Copy)]
-pub enum Class {
-    Blank,
-    Word,
-    Line,
-}
-
-// A word, from its start to its end; where both are one there is none.
+// A word, from its start to its end; where both are one there is none. (No Option: where no word is, its place is where something is
+// missing.)
 #[derive(Clone, Copy)]
 pub struct Word {
     pub start: usize,
     pub end: usize,
 }
 
-// Whether a byte is of a class.
-fn is_in(class: Class, b: u8) -> bool
-    ensures { result ≡ is_in class b }
-{
-    match class {
-        Class::Blank => (b == b' ') | (b == b'\t') | (b == b'\r'),
-        Class::Word => {
-            !((b == b' ') | (b == b'\t') | (b == b'\r') | ((b == b'\n') | (b == b'#')))
-        }
-        Class::Line => !(b == b'\n'),
+impl Word {
+    pub fn is_none(self) -> bool
+        ensures { result ≡ (self.start == self.end) }
+    {
+        self.start == self.end
+    }
+
+    // The word's bytes, as far as the text goes.
+    pub fn bytes(self, text: &[u8]) -> &[u8]
+        ensures { result.now ≡ text_of text.now self }
+    {
+        let rest = text.get(self.start..).unwrap_or(&[]);
+        rest.get(..self.end.saturating_sub(self.start))
+            .unwrap_or(rest)
     }
 }
 
-// The place past the bytes of a class from a place on.
-pub fn past(text: &[u8], class: Class, at: usize) -> usize
-    ensures { result ≡ past text.now class at }
+// Between words.
+pub fn is_blank(b: u8) -> bool
+    ensures { result ≡ is_blank b }
 {
-    let mut i = at;
-    while i < text.len() {
-        if !is_in(class, text[i]) {
+    matches!(b, b' ' | b'\t' | b'\r')
+}
+
+// A word's bytes: a line's end or a comment's `#` ends it.
+pub fn in_word(b: u8) -> bool
+    ensures { result ≡ in_word b }
+{
+    !is_blank(b) && b != b'\n' && b != b'#'
+}
+
+// The place past the bytes that pass a test, from a place on.
+pub fn past<F: Fn(u8) -> bool>(text: &[u8], passes: F, at: usize) -> usize
+    requires { F.IsAlwaysCallable passes }
+    ensures { (p : ℕ → Bool) → ((b : ℕ) → (r : Bool) → b < 256 → F.post passes b r → r ≡ p b) → result ≡ past text.now p at }
+{
+    for i in at..text.len() {
+        if !passes(text[i]) {
             return i;
         }
-        i += 1;
     }
-    i
+    text.len().max(at)
+}
+
+// The place of the line's end, from a place on.
+pub fn line_end(text: &[u8], at: usize) -> usize
+    ensures { result ≡ past text.now in_line at }
+{
+    past(text, |b| b != b'\n', at)
 }
 
 // The next word from a place on.
 pub fn word_at(text: &[u8], at: usize) -> Word
     ensures { result ≡ word_at text.now at }
 {
-    let start = past(text, Class::Blank, at);
-    let end = past(text, Class::Word, start);
+    let start = past(text, is_blank, at);
+    let end = past(text, in_word, start);
     Word { start, end }
 }

@@ -16,15 +16,15 @@ use Rattle.decisions.specs.Said.{codes_of}
 use Rattle.decisions.specs.Effects.{Effect, sent_by}
 use Rattle.decisions.specs.Events.{effect_of}
 use Rattle.bridge.specs.Answering.{Given, given, acceptance, refused, answer_of}
-use Rattle.bridge.specs.declared.Outcome.TheVariants.{Taken, Refused}
+use Rattle.std.specs.Prelude.{Result, Ok, Err}
 use Rattle.refusals.specs.declared.Refusal.{Refusal}
 use Rattle.refusals.specs.declared.Refusal.TheVariants.{Ranges, Samples}
 use Rattle.bridge.specs.declared.Bridge.{Bridge}
 use Rattle.wire.proofs.Choices.{by_bool}
 use Rattle.transcript.specs.Transcript.{room, call_of}
 
-pub not_refused_lem : (why : Refusal) → Taken ≡ Refused why → ⊥
-not_refused_lem why q = let v : ◌≡◌ {A = ℕ} 0 1 = cc in omega arith
+pub not_refused_lem : (why : Refusal) → ◌≡◌ {A = Result (Unit {0}) Refusal} (Ok tt) (Err why) → ⊥
+not_refused_lem why q = cc
 
 zeros_length : (xs : List ℕ) → length (zeros (length xs)) ≡ length xs
 zeros_length xs = let z : ℕ = 0 in length-replicate (length xs) z
@@ -67,7 +67,7 @@ module _ (b : Bridge) (e : Event) (ss : List ℕ) where
       (λ h. rw (call_ranges h) (omega arith))
 
   -- a refused call returns no code
-  pub call_codeless : (why : Refusal) → (call_of b e ss).answer.outcome ≡ Refused why → (call_of b e ss).answer.codes ≡ []
+  pub call_codeless : (why : Refusal) → (call_of b e ss).answer.outcome ≡ Err why → (call_of b e ss).answer.codes ≡ []
   call_codeless why q =
       by_bool (state_fits b.state)
       (λ h. by_bool (fits_in (length ss) 0 x.used)

@@ -23,16 +23,13 @@ use Rattle.decisions.specs.Promises.{most_actions, most_replies}
 use Rattle.decisions.proofs.Bounds.{event_actions, event_replies}
 use Rattle.decisions.proofs.Keeps.{event_keeps}
 use Rattle.effects.specs.Replies.{reply_bytes}
-use Rattle.effects.specs.Returning.{codes_in}
-use Rattle.effects.specs.declared.Returned.TheVariants.{Nothing}
 use Rattle.bridge.specs.Answering.{Given}
 use Rattle.bridge.specs.Measuring.{MeasuredAs}
 use Rattle.bridge.specs.declared.measuring.Measured.{Measured}
 use Rattle.refusals.specs.declared.Refusal.TheVariants.{Samples}
-use Rattle.bridge.specs.declared.Outcome.TheVariants.{Taken, Refused}
 use Rattle.records.specs.Records.{head_of, record_of}
 use Rattle.transcript.specs.Transcript.{call_of, unless_empty, output_of, most_output}
-use Rattle.transcript.specs.Events.{bridge_of, Headed, EventDone, Done}
+use Rattle.transcript.specs.Events.{bridge_of, Headed, EventTaken, EventRefused, Done}
 use Rattle.transcript.proofs.CallTests.{accepted_call, call_short, call_accepted}
 
 -- A HEADER PUT IN FRONT of bytes that stand behind room for it makes their record
@@ -91,17 +88,8 @@ module _ (s : State) (e : Event) (ss o : List ℕ) (n : InRange s) (z : Sized s)
   fits_as t h = subst (λ (k : ℕ). fits_in (length ss) 0 k ≡ t) p.used h
 
   -- without samples enough the call is refused
-  pub event_refused : fits_in (length ss) 0 r.used ≡ false → {d : Done} → (d.used ≡ 0) × (d.written ≡ 0) × (d.outcome ≡ Refused Samples) × (d.returned ≡ Nothing) → EventDone (call_of (bridge_of s) e ss) ss o o d
-  event_refused h {d} q =
-      let t = call_short (bridge_of s) e ss good (fits_as false h) in
-      record {
-        outcome = q.2 ∙ sym (ap (λ (g : Given). g.answer.outcome) t);
-        within = omega (arith, q.1);
-        few = omega (arith, q.0);
-        codes = ap codes_in q.3 ∙ sym (ap (λ (g : Given). g.answer.codes) t);
-        accepted = λ k. let k' : Refused Samples ≡ Taken = sym (ap (λ (g : Given). g.answer.outcome) t) ∙ k in let v : ◌≡◌ {A = ℕ} 0 1 = cc in absurd (omega arith);
-        refused = λ _ _. refl;
-      }
+  pub event_refused : fits_in (length ss) 0 r.used ≡ false → EventRefused (call_of (bridge_of s) e ss) o o Samples
+  event_refused h = record { outcome = ap (λ (g : Given). g.answer.outcome) (call_short (bridge_of s) e ss good (fits_as false h)); same = refl }
 
   pub samples_few : fits_in (length ss) 0 r.used ≡ true → r.used ≤ length ss
   samples_few h = omega (arith, leb-true (0 + r.used) (length ss) h)
@@ -125,19 +113,16 @@ module _ (s : State) (e : Event) (ss o : List ℕ) (n : InRange s) (z : Sized s)
           (subst (λ (ys : List ℕ). Written o 0 (unless_empty 0x0102 ys) o₂ at) acts_as a)
           (subst (λ (ys : List ℕ). Written o₂ at (unless_empty 0x0101 ys) o₃ w) p.replies b)
 
-      pub event_accepted : fits_in (length ss) 0 r.used ≡ true → EventDone (call_of (bridge_of s) e ss) ss o o₃ (record { state = r.state; used = r.used; written = w; outcome = Taken; returned = r.returned })
-      event_accepted h =
+      pub event_taken : fits_in (length ss) 0 r.used ≡ true → EventTaken (call_of (bridge_of s) e ss) ss o o₃ (record { state = r.state; used = r.used; written = w; returned = r.returned })
+      event_taken h =
           let t = call_accepted (bridge_of s) e ss good (fits_as true h) in
           record {
-            outcome = sym (ap (λ (g : Given). g.answer.outcome) t);
+            outcome = ap (λ (g : Given). g.answer.outcome) t;
+            bridge = ap bridge_of p.state ∙ sym (ap (λ (g : Given). g.answer.bridge) t);
+            used = p.used ∙ sym (ap (λ (g : Given). g.answer.samples) t);
+            codes = p.codes ∙ sym (ap (λ (g : Given). g.answer.codes) t);
+            wrote = subst (λ (g : Given). Written o 0 (output_of g) o₃ w) (sym t) both;
+            ranged = subst InRange (sym p.state) (event_keeps s e ss 0 n);
             within = omega (arith, a.after, b.after, some_length 0x0102 acts, some_length 0x0101 says, acts_few, says_few, says_size);
             few = samples_few h;
-            codes = p.codes ∙ sym (ap (λ (g : Given). g.answer.codes) t);
-            accepted = λ _. (
-              ap bridge_of p.state ∙ sym (ap (λ (g : Given). g.answer.bridge) t),
-              p.used ∙ sym (ap (λ (g : Given). g.answer.samples) t),
-              subst (λ (g : Given). Written o 0 (output_of g) o₃ w) (sym t) both,
-              subst InRange (sym p.state) (event_keeps s e ss 0 n),
-            );
-            refused = λ why k. let k' : Taken ≡ Refused why = sym (ap (λ (g : Given). g.answer.outcome) t) ∙ k in let v : ◌≡◌ {A = ℕ} 0 1 = cc in absurd (omega arith);
           }

@@ -1,5 +1,5 @@
 -- Progress through a body's events, by its tests; and the tests of the code. Assumes nothing.
-use Prim.Native.Nat.{ℕ, zero, suc, ◌+◌, ◌-◌, ◌≤◌, ◌<◌}
+use Prim.Native.Nat.{ℕ, min, zero, suc, ◌+◌, ◌-◌, ◌≤◌, ◌<◌}
 use mathlib.Core.Path.{◌≡◌, refl, sym, ap, ◌∙◌, subst}
 use mathlib.Core.Bool.{Bool, true, false, cond, not, ◌&&◌, true≢false}
 use mathlib.Core.List.{List, [], ◌∷◌}
@@ -10,10 +10,11 @@ use lib.ListN.{length, drop}
 use Rattle.codes.proofs.Both.{both_left, both_right}
 use Rattle.registers.specs.declared.Event.{Event}
 use Rattle.registers.specs.declared.State.{State}
+use Rattle.refusals.specs.declared.Refusal.{Refusal}
 use Rattle.bridge.specs.Answering.{Given}
 use Rattle.bridge.specs.declared.Bridge.{Bridge}
-use Rattle.bridge.specs.declared.Outcome.{Outcome}
-use Rattle.bridge.specs.declared.Outcome.TheVariants.{Taken, Refused}
+use Rattle.std.specs.Prelude.{Result, Ok, Err}
+use Rattle.records.specs.declared.contents.Received.{Received}
 use Rattle.records.specs.Contents.{events_of}
 use Rattle.wire.proofs.Choices.{by_bool, by_cond}
 use Rattle.transcript.specs.Transcript.{call_of, output_of, most_output}
@@ -24,13 +25,13 @@ pub progress_step : (n room : ℕ) (e : Event) (es : List Event) (b : Bridge) (s
     → progress_of (suc n) room (e ∷ es) b ss
     ≡ onward (call_of b e ss).answer.outcome b (call_of b e ss) (progress_of n (room - length (output_of (call_of b e ss))) es (call_of b e ss).answer.bridge (drop (call_of b e ss).answer.samples ss))
 progress_step n room e es b ss h =
-    ap (λ (t : Bool). cond t (halt b Taken) (onward (call_of b e ss).answer.outcome b (call_of b e ss) (progress_of n (room - length (output_of (call_of b e ss))) es (call_of b e ss).answer.bridge (drop (call_of b e ss).answer.samples ss)))) (le-ltb room most_output h)
+    ap (λ (t : Bool). cond t (halt b (Ok tt)) (onward (call_of b e ss).answer.outcome b (call_of b e ss) (progress_of n (room - length (output_of (call_of b e ss))) es (call_of b e ss).answer.bridge (drop (call_of b e ss).answer.samples ss)))) (le-ltb room most_output h)
 
-pub progress_short : (n room : ℕ) (es : List Event) (b : Bridge) (ss : List ℕ) → room < most_output → progress_of n room es b ss ≡ halt b Taken
+pub progress_short : (n room : ℕ) (es : List Event) (b : Bridge) (ss : List ℕ) → room < most_output → progress_of n room es b ss ≡ halt b (Ok tt)
 progress_short zero room es b ss h = refl
 progress_short (suc n) room [] b ss h = refl
 progress_short (suc n) room (e ∷ es) b ss h =
-    ap (λ (t : Bool). cond t (halt b Taken) (onward (call_of b e ss).answer.outcome b (call_of b e ss) (progress_of n (room - length (output_of (call_of b e ss))) es (call_of b e ss).answer.bridge (drop (call_of b e ss).answer.samples ss)))) (lt-ltb room most_output h)
+    ap (λ (t : Bool). cond t (halt b (Ok tt)) (onward (call_of b e ss).answer.outcome b (call_of b e ss) (progress_of n (room - length (output_of (call_of b e ss))) es (call_of b e ss).answer.bridge (drop (call_of b e ss).answer.samples ss)))) (lt-ltb room most_output h)
 
 -- no more events than there are
 pub progress_all : (n room : ℕ) (es : List Event) (b : Bridge) (ss : List ℕ) → length es ≤ n → progress_of (length es) room es b ss ≡ progress_of n room es b ss
@@ -38,21 +39,21 @@ progress_all zero room [] b ss h = refl
 progress_all zero room (e ∷ es) b ss h = absurd (omega arith)
 progress_all (suc n) room [] b ss h = refl
 progress_all (suc n) room (e ∷ es) b ss h =
-    ap (λ (p : Progress). cond (ltb room most_output) (halt b Taken) (onward (call_of b e ss).answer.outcome b (call_of b e ss) p))
+    ap (λ (p : Progress). cond (ltb room most_output) (halt b (Ok tt)) (onward (call_of b e ss).answer.outcome b (call_of b e ss) p))
     (progress_all n (room - length (output_of (call_of b e ss))) es (call_of b e ss).answer.bridge (drop (call_of b e ss).answer.samples ss) (omega arith))
 
 -- the events that were tried
-abbrev pub tried : Outcome → Progress → ℕ
-tried Taken p = p.read
-tried (Refused why) p = p.read + 1
+abbrev pub tried : Result (Unit {0}) Refusal → Progress → ℕ
+tried (Ok tt) p = p.read
+tried (Err why) p = p.read + 1
 
-tried_onward : (t : Outcome) (b : Bridge) (g : Given) (p : Progress) → tried t (onward Taken b g p) ≡ 1 + tried t p
-tried_onward Taken b g p = refl
-tried_onward (Refused why) b g p = omega arith
+tried_onward : (t : Result (Unit {0}) Refusal) (b : Bridge) (g : Given) (p : Progress) → tried t (onward (Ok tt) b g p) ≡ 1 + tried t p
+tried_onward (Ok tt) b g p = refl
+tried_onward (Err why) b g p = omega arith
 
-onward_few : (n : ℕ) (t : Outcome) (b : Bridge) (g : Given) (p : Progress) → tried p.outcome p ≤ n → tried (onward t b g p).outcome (onward t b g p) ≤ suc n
-onward_few n Taken b g p h = omega (arith, tried_onward p.outcome b g p)
-onward_few n (Refused why) b g p h = omega arith
+onward_few : (n : ℕ) (t : Result (Unit {0}) Refusal) (b : Bridge) (g : Given) (p : Progress) → tried p.outcome p ≤ n → tried (onward t b g p).outcome (onward t b g p) ≤ suc n
+onward_few n (Ok tt) b g p h = omega (arith, tried_onward p.outcome b g p)
+onward_few n (Err why) b g p h = omega arith
 
 pub progress_few : (n room : ℕ) (es : List Event) (b : Bridge) (ss : List ℕ) → tried (progress_of n room es b ss).outcome (progress_of n room es b ss) ≤ n
 progress_few zero room es b ss = omega arith
@@ -72,17 +73,15 @@ range_kept n true h k = refl
 range_kept n false h k = absurd (true≢false (sym (ap (λ (b : Bool). b && true) (lt-ltb 0 n k)) ∙ h))
 
 -- at most as many events as there are and as the budget has
-pub least_within : (n size most : ℕ) → most ≡ cond (ltb size n) size n → most ≤ size
-least_within n size most e = by_bool (ltb size n) (λ t. let v : most ≡ size = rw t at e in omega arith) (λ t. let v : most ≡ n = rw t at e in omega (arith, ltb-false size n t))
-
-pub least_reached : (n : ℕ) (s : State) (fault : Bool) (body ss o x : List ℕ) (most : ℕ) (r : Reach) → most ≡ cond (ltb (length body) n) (length body) n
-    → Reached (progress_of most (length o) (events_of fault body) (bridge_of s) ss) (events_of fault body) ss o x r
-    → Reached (progress_of n (length o) (events_of fault body) (bridge_of s) ss) (events_of fault body) ss o x r
-least_reached n s fault body ss o x most r e =
-    subst (λ (p : Progress). Reached p (events_of fault body) ss o x r)
+pub least_reached : (n : ℕ) (s : State) (received : Received) (body ss o x : List ℕ) (most : ℕ) (r : Reach) → most ≡ min (length body) n
+    → Reached (progress_of most (length o) (events_of received body) (bridge_of s) ss) (events_of received body) ss o x r
+    → Reached (progress_of n (length o) (events_of received body) (bridge_of s) ss) (events_of received body) ss o x r
+least_reached n s received body ss o x most r e =
+    subst (λ (p : Progress). Reached p (events_of received body) ss o x r)
     (by_bool (ltb (length body) n)
     (λ t.
-    let v : most ≡ length body = rw t at e in
-    ap (λ (m : ℕ). progress_of m (length o) (events_of fault body) (bridge_of s) ss) (v ∙ sym (events_length fault body))
-    ∙ progress_all n (length o) (events_of fault body) (bridge_of s) ss (omega (arith, events_length fault body, ltb-true (length body) n t)))
-    (λ t. let v : most ≡ n = rw t at e in ap (λ (m : ℕ). progress_of m (length o) (events_of fault body) (bridge_of s) ss) v))
+    let h : length body ≤ n = omega (arith, ltb-true (length body) n t) in
+    let v : most ≡ length body = omega arith in
+    ap (λ (m : ℕ). progress_of m (length o) (events_of received body) (bridge_of s) ss) (v ∙ sym (events_length received body))
+    ∙ progress_all n (length o) (events_of received body) (bridge_of s) ss (omega (arith, events_length received body)))
+    (λ t. let v : most ≡ n = omega (arith, ltb-false (length body) n t) in ap (λ (m : ℕ). progress_of m (length o) (events_of received body) (bridge_of s) ss) v))

@@ -14,7 +14,7 @@ use Rattle.decisions.specs.Effects.{sent_by}
 use Rattle.decisions.proofs.Bounds.{event_actions, event_replies}
 use Rattle.bridge.specs.Answering.{Lent, lent, Given, effect, answer_of}
 use Rattle.bridge.specs.declared.Bridge.{Bridge}
-use Rattle.bridge.specs.declared.Outcome.TheVariants.{Taken}
+use Rattle.std.specs.Prelude.{Result, Ok, Err}
 use Rattle.refusals.specs.declared.Refusal.TheVariants.{Ranges, Samples}
 use Rattle.wire.proofs.Choices.{by_bool}
 use Rattle.transcript.specs.Transcript.{call_of, Suffices, AnyRoom, EnoughRoom}
@@ -27,7 +27,7 @@ module _ (b : Bridge) (e : Event) (ss : List ℕ) (as' : List ℕ) (a : ℕ) (rs
   l = lent ss 0 as' a rs r
 
   abbrev Same : Given → Given → Type 0
-  Same h g = (h.answer ≡ g.answer) × (g.answer.outcome ≡ Taken → (h.actions ≡ overwrite as' a g.actions) × (h.replies ≡ overwrite rs r g.replies))
+  Same h g = (h.answer ≡ g.answer) × (g.answer.outcome ≡ Ok tt → (h.actions ≡ overwrite as' a g.actions) × (h.replies ≡ overwrite rs r g.replies))
 
   same_call : Same (answer_of b e l) (call_of b e ss)
   unfolding answer_of

@@ -1,5 +1,5 @@
 -- The transcript of an event (01, "Session file"): the call for it, and the records that it, the end and a refusal write.
-use Rattle.std.specs.Prelude.{ℕ, ◌+◌, ◌*◌, ◌≤◌, ◌≡◌, true, cond, List, [], ◌∷◌, ◌++◌, eqb, length}
+use Rattle.std.specs.Prelude.{ℕ, ◌+◌, ◌*◌, ◌≤◌, ◌≡◌, true, cond, List, [], ◌∷◌, ◌++◌, eqb, length, Ok}
 use Rattle.wire.specs.Action.{bytes_of}
 use Rattle.wire.specs.Buffer.{overwrite, fits_in}
 use Rattle.packet.specs.Register.{zeros}
@@ -11,7 +11,6 @@ use Rattle.decisions.specs.Effects.{Effect, sent_by}
 use Rattle.decisions.specs.Events.{effect_of}
 use Rattle.bridge.specs.Answering.{Lent, lent, Given, effect, answer_of}
 use Rattle.bridge.specs.declared.Bridge.{Bridge}
-use Rattle.bridge.specs.declared.Outcome.TheVariants.{Taken}
 use Rattle.registers.specs.Registers.{is_idle}
 use Rattle.refusals.specs.Refusals.{number_of}
 use Rattle.refusals.specs.declared.Refusal.{Refusal}
@@ -54,8 +53,8 @@ Suffices b e l =
 -- what that one gives
 pub record SameCall (b : Bridge) (e : Event) (l : Lent) : Type 0 where
   pub answer : (answer_of b e l).answer ≡ (call_of b e l.samples).answer
-  pub actions : (call_of b e l.samples).answer.outcome ≡ Taken → (answer_of b e l).actions ≡ overwrite l.actions l.acted (call_of b e l.samples).actions
-  pub replies : (call_of b e l.samples).answer.outcome ≡ Taken → (answer_of b e l).replies ≡ overwrite l.replies l.replied (call_of b e l.samples).replies
+  pub actions : (call_of b e l.samples).answer.outcome ≡ Ok tt → (answer_of b e l).actions ≡ overwrite l.actions l.acted (call_of b e l.samples).actions
+  pub replies : (call_of b e l.samples).answer.outcome ≡ Ok tt → (answer_of b e l).replies ≡ overwrite l.replies l.replied (call_of b e l.samples).replies
 
 abbrev pub AnyRoom : Type 0
 AnyRoom = (b : Bridge) (e : Event) (ss as' : List ℕ) (a : ℕ) (rs : List ℕ) (r : ℕ) → Suffices b e (lent ss 0 as' a rs r) → SameCall b e (lent ss 0 as' a rs r)

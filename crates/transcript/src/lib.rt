@@ -10,5 +10,6 @@ const MOST_REPLIES: usize = 10;
 // The most actions of an event: an exchange's, four a bit and one before.
 const MOST_ACTIONS: usize = 1 + 4 * (packet::WIDTH as usize);
 
-// The most bytes that an event writes: its actions and replies with their headers. A call with less room does nothing.
+// The most bytes that an event writes: its actions and replies with their headers. A call with less room does nothing; room for them is
+// no invariant of a type, since `run` and `advance` answer any buffer, so what comes after their test asks for it.
 pub const MOST_OUTPUT: usize = 4 + 4 * MOST_ACTIONS + 4 + MOST_REPLIES;

@@ -11,20 +11,12 @@ ghost use Rattle.registers.specs.Registers.{is_idle};
 
 use effects::Reply;
 use effects::sending::put_reply;
+use records::kinds::OutputKind;
 use records::reading::HEADER;
 use records::writing::{put_head, put_record};
-use refusals::{Refusal, number};
+use refusals::Refusal;
 use registers::{Page, State, Wait};
 use signals::Waveform;
-
-// The kinds of output records.
-const REPLIES: u16 = 0x0101;
-
-const ACTIONS: u16 = 0x0102;
-
-const LAST: u16 = 0x0104;
-
-const REFUSAL: u16 = 0x01FF;
 
 // The header in front of so many bytes of actions that stand in the buffer already, none if there are none.
 fn put_actions_head(out: &mut [u8], size: usize) -> usize
@@ -34,7 +26,7 @@ fn put_actions_head(out: &mut [u8], size: usize) -> usize
     if size == 0 {
         return 0;
     }
-    put_head(out, 0, ACTIONS, size) + size
+    put_head(out, 0, OutputKind::Actions as u16, size) + size
 }
 
 // A waveform's actions as a record, none if there are none, at the front of a buffer: behind room for their header, which is put
@@ -56,7 +48,7 @@ pub(crate) fn put_replies(out: &mut [u8], at: usize, s: State, reply: Reply, siz
     if size == 0 {
         return at;
     }
-    let n = put_head(out, at, REPLIES, size);
+    let n = put_head(out, at, OutputKind::Replies as u16, size);
     put_reply(&mut out[n..], s, reply);
     n + size
 }
@@ -74,7 +66,7 @@ pub fn put_last(out: &mut [u8], w: Wait) -> usize
     ensures { Written out.old 0 (last_of w) out.new result }
 {
     let b = waits(w);
-    put_record(out, 0, LAST, &[b])
+    put_record(out, 0, OutputKind::Last as u16, &[b])
 }
 
 // The record of a refusal, at the front of a buffer in which the caller shows room for it.
@@ -82,12 +74,12 @@ pub fn put_refusal(out: &mut [u8], why: Refusal, place: usize) -> usize
     requires { 10 ≤ length out.old }
     ensures { Written out.old 0 (refusal_of why place) out.new result }
 {
-    let n = number(why) as u16;
+    let n = u8::from(why) as u16;
     let low = (n % 256) as u8;
     let high = (n / 256 % 256) as u8;
     let a = (place % 256) as u8;
     let b = (place / 256 % 256) as u8;
     let c = (place / 65536 % 256) as u8;
     let d = (place / 16777216 % 256) as u8;
-    put_record(out, 0, REFUSAL, &[low, high, a, b, c, d])
+    put_record(out, 0, OutputKind::Refusal as u16, &[low, high, a, b, c, d])
 }

@@ -1,6 +1,11 @@
 -- Text collected in a lent buffer on its way out: the buffer, and how much of it is collected.
 use Rattle.std.specs.Prelude.{ℕ, ◌+◌, cond, List, [], ◌∷◌, length}
 use Rattle.wire.specs.Buffer.{overwrite, fits_in}
+use Rattle.value_changes.specs.declared.Collected.{Collected}
+
+-- what the program collects in: the buffer's bytes and the count
+abbrev pub contents : Collected → List ℕ × ℕ
+contents c = (c.text.now, c.used)
 
 -- A ROW MORE stands after what is collected; where it does not fit, that and the row go out, and nothing is collected
 abbrev pub collect : List ℕ × ℕ → List ℕ → List ℕ × ℕ

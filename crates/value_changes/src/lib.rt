@@ -2,96 +2,117 @@
 // standard output no contract can say; each says what is collected then.
 #![tactic(auto)]
 
-ghost use Rattle.std.specs.Prelude.{◌≡◌, false, ◌<◌, length};
-ghost use Rattle.value_changes.specs.Collected.{collect, collect_all};
+ghost use Rattle.std.specs.Prelude.{◌≡◌, ◌<◌, Err, length};
+ghost use Rattle.value_changes.specs.Collected.{collect, collect_all, contents};
 ghost use Rattle.value_changes.specs.Rows.{Timed, level_row, register_row, bit_row, bit_rows};
 
-const STDOUT_FILENO: i32 = 1;
+use streams::STDOUT;
 
-// Writes out what is collected, and answers whether that went well, which it does not if that is more than there is.
-pub fn flush(text: &[u8], used: usize) -> bool
-    ensures { length text.now < used → result ≡ false }
-{
-    if used <= text.len() {
-        return io::write_all(STDOUT_FILENO, &text[..used]);
+// The bits of a register.
+const BITS: usize = 8;
+
+// Text that is not written yet: a lent buffer, and how much of it is collected. Each method keeps the buffer, so that who lent it knows
+// what it holds then.
+#[derive(Drop)]
+pub struct Collected<'a> {
+    pub text: &'a mut [u8],
+    pub used: usize,
+}
+
+// Text that could not be written.
+#[derive(Clone, Copy, Debug)]
+pub struct Unwritten;
+
+impl<'a> Collected<'a> {
+    // Writes out what is collected. More than there is cannot be written.
+    fn send(&self) -> Result<(), Unwritten>
+        ensures { length self.now.text.now < self.now.used → result ≡ Err (record {}) }
+    {
+        if self.used <= self.text.len() && io::write_all(STDOUT, &self.text[..self.used]) {
+            return Ok(());
+        }
+        Err(Unwritten)
     }
-    false
-}
 
-// Puts a row of bytes after what is collected, and answers how much is collected then; what does not fit goes out at once.
-pub fn put(text: &mut [u8], used: usize, row: &[u8]) -> usize
-    ensures { (text.new, result) ≡ collect (text.old, used) row.now }
-{
-    if wire::fits(text.len(), used, row.len()) {
-        return wire::put_bytes(text, used, row);
+    // Writes out what is collected; then nothing is.
+    pub fn flush(&mut self) -> Result<(), Unwritten>
+        ensures same_buffer { self.new.text.ghost_name ≡ self.old.text.ghost_name }
+        ensures emptied { contents self.new ≡ (self.old.text.now, 0) }
+        ensures past_end { length self.old.text.now < self.old.used → result ≡ Err (record {}) }
+    {
+        let sent = self.send();
+        self.used = 0;
+        sent
     }
-    flush(text, used);
-    io::write_all(STDOUT_FILENO, row);
-    0
-}
 
-// A line that says the time from which on the next changes hold.
-pub fn put_time(text: &mut [u8], used: usize, time: u64) -> usize
-    ensures { Timed time (text.old, used) (text.new, result) }
-{
-    let mut digits = [0u8; 20];
-    let n = io::decimal(time, &mut digits);
-    let after = put(text, used, b"#");
-    let end = put(text, after, &digits[..n]);
-    put(text, end, b"\n")
-}
-
-// A line's level, `0`, `1` or `z`, with its identifier.
-pub fn put_level(text: &mut [u8], used: usize, level: u8, identifier: u8) -> usize
-    ensures { (text.new, result) ≡ collect (text.old, used) (level_row level identifier) }
-{
-    put(text, used, &[level, identifier, b'\n'])
-}
-
-// A register's byte in binary digits, the high bit first, with its identifier.
-pub fn put_register(text: &mut [u8], used: usize, byte: u8, identifier: u8) -> usize
-    ensures { (text.new, result) ≡ collect (text.old, used) (register_row byte identifier) }
-{
-    let row = [
-        b'b',
-        b'0' + byte / 128 % 2,
-        b'0' + byte / 64 % 2,
-        b'0' + byte / 32 % 2,
-        b'0' + byte / 16 % 2,
-        b'0' + byte / 8 % 2,
-        b'0' + byte / 4 % 2,
-        b'0' + byte / 2 % 2,
-        b'0' + byte % 2,
-        b' ',
-        identifier,
-        b'\n',
-    ];
-    put(text, used, &row)
-}
-
-// A bit of a register if it changed, with the register's identifier and its number.
-fn put_bit(text: &mut [u8], used: usize, old: u8, new: u8, identifier: u8, number: u8) -> usize
-    ensures { (text.new, result) ≡ collect_all (text.old, used) (bit_row old new identifier number) }
-{
-    if old % 2 == new % 2 {
-        return used;
+    // Puts a row of bytes after what is collected; what does not fit goes out at once.
+    pub fn put(&mut self, row: &[u8])
+        ensures same_buffer { self.new.text.ghost_name ≡ self.old.text.ghost_name }
+        ensures collected { contents self.new ≡ collect (contents self.old) row.now }
+    {
+        let used = self.used;
+        if wire::fits(self.text.len(), used, row.len()) {
+            self.used = wire::put_bytes(self.text, used, row);
+            return;
+        }
+        let _ = self.flush();
+        streams::say(row);
     }
-    put(text, used, &[b'0' + new % 2, identifier, number, b'\n'])
-}
 
-// The bits of a register that changed, the low one first.
-pub fn put_bits(text: &mut [u8], used: usize, old: u8, new: u8, identifier: u8) -> usize
-    ensures { (text.new, result) ≡ collect_all (text.old, used) (bit_rows 8 0x30 old new identifier) }
-{
-    let mut end = used;
-    let mut before = old;
-    let mut after = new;
-    let mut number = b'0';
-    while number < b'8' {
-        end = put_bit(text, end, before, after, identifier, number);
-        before /= 2;
-        after /= 2;
-        number += 1;
+    // A line that says the time from which on the next changes hold.
+    pub fn put_time(&mut self, time: u64)
+        ensures same_buffer { self.new.text.ghost_name ≡ self.old.text.ghost_name }
+        ensures collected { Timed time (contents self.old) (contents self.new) }
+    {
+        let mut digits = [0u8; 20];
+        let n = io::decimal(time, &mut digits);
+        self.put(b"#");
+        self.put(&digits[..n]);
+        self.put(b"\n");
     }
-    end
+
+    // A line's level, `0`, `1` or `z`, with its identifier.
+    pub fn put_level(&mut self, level: u8, identifier: u8)
+        ensures same_buffer { self.new.text.ghost_name ≡ self.old.text.ghost_name }
+        ensures collected { contents self.new ≡ collect (contents self.old) (level_row level identifier) }
+    {
+        self.put(&[level, identifier, b'\n']);
+    }
+
+    // A register's byte in binary digits, the high bit first, with its identifier.
+    pub fn put_register(&mut self, byte: u8, identifier: u8)
+        ensures same_buffer { self.new.text.ghost_name ≡ self.old.text.ghost_name }
+        ensures collected { contents self.new ≡ collect (contents self.old) (register_row byte identifier) }
+    {
+        let mut row = *b"b00000000  \n";
+        row[BITS + 2] = identifier;
+        for bit in 0..BITS {
+            row[BITS - bit] = b'0' + (byte >> bit) % 2;
+        }
+        self.put(&row);
+    }
+
+    // A bit of a register if it changed, with the register's identifier and its number.
+    fn put_bit(&mut self, old: u8, new: u8, identifier: u8, number: u8)
+        ensures same_buffer { self.new.text.ghost_name ≡ self.old.text.ghost_name }
+        ensures collected { contents self.new ≡ collect_all (contents self.old) (bit_row old new identifier number) }
+    {
+        if old % 2 != new % 2 {
+            self.put(&[b'0' + new % 2, identifier, number, b'\n']);
+        }
+    }
+
+    // The bits of a register that changed, the low one first.
+    pub fn put_bits(&mut self, old: u8, new: u8, identifier: u8)
+        ensures same_buffer { self.new.text.ghost_name ≡ self.old.text.ghost_name }
+        ensures collected { contents self.new ≡ collect_all (contents self.old) (bit_rows 8 0x30 old new identifier) }
+    {
+        let mut before = old;
+        let mut after = new;
+        for number in b'0'..b'8' {
+            self.put_bit(before, after, identifier, number);
+            before /= 2;
+            after /= 2;
+        }
+    }
 }

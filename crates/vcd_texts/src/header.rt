@@ -1,91 +1,74 @@
 // The header: its unit of time, how it is to be read, and its variables.
-const STDOUT_FILENO: i32 = 1;
+use streams::say;
 
 fn write_comment(pull_up: bool) {
-    io::write_all(STDOUT_FILENO, b"$timescale 1 us $end\n$comment\n");
-    io::write_all(
-        STDOUT_FILENO,
-        b"A wait takes its time, every other action 1 us. An IOG cycle counts as 1 us.\n",
-    );
+    say(b"$timescale 1 us $end\n$comment\n");
+    say(b"A wait takes its time, every other action 1 us. An IOG cycle counts as 1 us.\n");
     if pull_up {
-        io::write_all(
-            STDOUT_FILENO,
+        say(
             b"A released line is 1, and SCK before its first exchange as that begins. Around a sample a line has the level sampled.\nThe ports are shown bit by bit.\n",
         );
     } else {
-        io::write_all(
-            STDOUT_FILENO,
-            b"A released line is z. Around a sample it has the level sampled.\n",
-        );
+        say(b"A released line is z. Around a sample it has the level sampled.\n");
     }
-    io::write_all(STDOUT_FILENO, b"$end\n");
+    say(b"$end\n");
 }
 
-fn write_lines() {
-    io::write_all(
-        STDOUT_FILENO,
-        b"$var wire 1 A SCL $end\n$var wire 1 B SDA $end\n$var wire 1 C CS $end\n",
-    );
-    io::write_all(
-        STDOUT_FILENO,
-        b"$var wire 1 D SCK $end\n$var wire 1 E MOSI $end\n$var wire 1 F MISO $end\n",
-    );
-    io::write_all(
-        STDOUT_FILENO,
-        b"$var wire 1 G SS $end\n$var wire 1 H DQ $end\n$var wire 1 I PB7 $end\n",
-    );
-}
+// The variables, each by its identifier and its name: the lines, and the direction and latch registers of the ports.
+const LINES: [(u8, &[u8]); 9] = [
+    (b'A', b"SCL"),
+    (b'B', b"SDA"),
+    (b'C', b"CS"),
+    (b'D', b"SCK"),
+    (b'E', b"MOSI"),
+    (b'F', b"MISO"),
+    (b'G', b"SS"),
+    (b'H', b"DQ"),
+    (b'I', b"PB7"),
+];
 
-fn write_registers() {
-    io::write_all(
-        STDOUT_FILENO,
-        b"$var wire 8 J DDRB $end\n$var wire 8 K PORTB $end\n",
-    );
-    io::write_all(
-        STDOUT_FILENO,
-        b"$var wire 8 L DDRC $end\n$var wire 8 M PORTC $end\n",
-    );
-    io::write_all(
-        STDOUT_FILENO,
-        b"$var wire 8 N DDRD $end\n$var wire 8 O PORTD $end\n",
-    );
+const REGISTERS: [(u8, &[u8]); 6] = [
+    (b'J', b"DDRB"),
+    (b'K', b"PORTB"),
+    (b'L', b"DDRC"),
+    (b'M', b"PORTC"),
+    (b'N', b"DDRD"),
+    (b'O', b"PORTD"),
+];
+
+// A variable of so many bits, or a register's bit with its number.
+fn write_variable(bits: &[u8], identifier: u8, name: &[u8], number: &[u8]) {
+    say(b"$var wire ");
+    say(bits);
+    say(&[b' ', identifier]);
+    say(number);
+    say(b" ");
+    say(name);
+    say(number);
+    say(b" $end\n");
 }
 
 // A register's bits, each with the register's identifier and its number.
-fn write_bits(name: &[u8], identifier: u8) {
-    let mut number = b'0';
-    while number < b'8' {
-        io::write_all(STDOUT_FILENO, b"$var wire 1 ");
-        io::write_all(STDOUT_FILENO, &[identifier, number, b' ']);
-        io::write_all(STDOUT_FILENO, name);
-        io::write_all(STDOUT_FILENO, &[number]);
-        io::write_all(STDOUT_FILENO, b" $end\n");
-        number += 1;
+fn write_bits(identifier: u8, name: &[u8]) {
+    for number in b'0'..b'8' {
+        write_variable(b"1", identifier, name, &[number]);
     }
-}
-
-fn write_register_bits() {
-    write_bits(b"DDRB", b'J');
-    write_bits(b"PORTB", b'K');
-    write_bits(b"DDRC", b'L');
-    write_bits(b"PORTC", b'M');
-    write_bits(b"DDRD", b'N');
-    write_bits(b"PORTD", b'O');
 }
 
 // Everything before the first values. With pull-ups the registers are written bit by bit, since some readers take no value of more
 // than one bit.
 pub fn write_header(pull_up: bool) {
     write_comment(pull_up);
-    io::write_all(STDOUT_FILENO, b"$scope module bridge $end\n");
-    write_lines();
-    if pull_up {
-        write_register_bits();
-    } else {
-        write_registers();
+    say(b"$scope module bridge $end\n");
+    for (identifier, name) in LINES {
+        write_variable(b"1", identifier, name, b"");
     }
-    io::write_all(
-        STDOUT_FILENO,
-        b"$upscope $end\n$enddefinitions $end\n#0\n$dumpvars\n",
-    );
+    for (identifier, name) in REGISTERS {
+        if pull_up {
+            write_bits(identifier, name);
+        } else {
+            write_variable(b"8", identifier, name, b"");
+        }
+    }
+    say(b"$upscope $end\n$enddefinitions $end\n#0\n$dumpvars\n");
 }

@@ -3,183 +3,86 @@
 // the session and the transcript.
 #![tactic(auto)]
 
-ghost use Rattle.std.specs.Prelude.{◌≡◌, false, ◌<◌, ◌≤◌};
-ghost use Rattle.io.specs.Counts.{IsPrefixLen};
+ghost use Rattle.std.specs.Prelude.{◌≡◌, false, ◌<◌, ◌≤◌, length};
 ghost use Rattle.session.specs.Runs.{left};
 
-use records::reading::joined;
 use session::replay::Cursor;
-use std::io::Read;
+use std::io::{Read, Take};
+use streams::{say, say_decimal};
 
-const STDOUT_FILENO: i32 = 1;
+const USAGE: &[u8] =
+    b"usage: vectors FILE\nRuns the stored sessions in FILE and says how many transcripts differ from the stored ones.\n";
 
-// Where a comparison stands: the cursor, how many bytes of the stored transcript are left, and whether all were the same.
-#[derive(Clone, Copy)]
-struct Compared {
-    cursor: Cursor,
-    left: usize,
-    same: bool,
-}
+const MOST: usize = 1_000_000;
 
-// What a vector shows: whether the transcript is the stored one; at the file's end there is none.
-#[derive(Clone, Copy)]
-enum Shown {
-    Compared(bool),
-    Nothing,
-}
-
-// Reads once; a read that fails counts as the end.
-fn read_once<R: Read>(file: &mut R, buf: &mut [u8]) -> usize
-    ensures { IsPrefixLen result buf.new }
+// Reads up to n bytes to the front of a buffer; a read that fails leaves none.
+fn read_part<'a, R: Read>(file: &mut R, n: usize, buf: &'a mut [u8]) -> &'a [u8]
+    ensures { length result.now ≤ length buf.old }
 {
-    match file.read(buf) {
-        Ok(n) => n,
-        Err(_) => 0,
-    }
+    input::read_full(&mut file.by_ref().take(n as u64), buf).unwrap_or(b"")
 }
 
-// Reads until the buffer is full, the file ends or a read fails.
-fn read_full<R: Read>(file: &mut R, buf: &mut [u8]) -> usize
-    ensures { IsPrefixLen result buf.new }
-{
-    let mut n: usize = 0;
-    while n < buf.len() {
-        let more = read_once(file, &mut buf[n..]);
-        if more == 0 {
-            return n;
-        }
-        n += more;
-    }
-    n
-}
-
-// Reads up to n bytes to the front of a buffer.
-fn read_part<R: Read>(file: &mut R, buf: &mut [u8], n: usize) -> usize
-    ensures { IsPrefixLen result buf.new }
-{
-    if n <= buf.len() {
-        return read_full(file, &mut buf[..n]);
-    }
-    0
-}
-
-// Whether the file goes on with these bytes.
-fn goes_on<R: Read>(file: &mut R, chunk: &[u8]) -> bool {
-    let mut stored = io::large_buffer();
-    let n = read_part(file, &mut stored, chunk.len());
-    check::same(chunk, &stored[..n])
-}
-
-// One call of the run, and its chunk against as many bytes of the file; what is longer than stored differs.
-fn compare_chunk<R: Read>(c: Cursor, stored: usize, session: &[u8], file: &mut R) -> Compared
-    ensures { c.done ≡ false → left session.now result.cursor < left session.now c }
+// One call of the run, and whether the stored transcript goes on with its chunk.
+fn compare_chunk<R: Read>(c: Cursor, session: &[u8], stored: &mut R) -> (Cursor, bool)
+    ensures { c.done ≡ false → left session.now result.0 < left session.now c }
 {
     let mut out = io::large_buffer();
-    let r = session::replay::run(c, session, &mut out);
-    let n = r.written;
-    let cursor = r.cursor;
-    if stored < n {
-        return Compared {
-            cursor,
-            left: stored,
-            same: false,
-        };
-    }
-    let same = goes_on(file, &out[..n]);
-    Compared {
-        cursor,
-        left: stored - n,
-        same,
-    }
-}
-
-// As many bytes as are left, or as a buffer has.
-fn least(left: usize, size: usize) -> usize
-    ensures { (result ≤ left) × (0 < size → 0 < left → 0 < result) }
-{
-    if left < size { left } else { size }
-}
-
-// Reads up to n bytes, and forgets them.
-fn pass<R: Read>(file: &mut R, n: usize) {
     let mut buf = io::large_buffer();
-    read_part(file, &mut buf, n);
+    let r = session::replay::run(c, session, &mut out);
+    let chunk = &out[..r.written];
+    (r.cursor, read_part(stored, chunk.len(), &mut buf) == chunk)
 }
 
-// Passes over so many bytes of the file, so that a vector that differs leaves the next one in its place.
-fn skip<R: Read>(file: &mut R, n: usize) {
-    let mut left = n;
-    while 0 < left {
-        let some = least(left, 65536);
-        pass(file, some);
-        left -= some;
-    }
-}
-
-// Whether a session's transcript is the stored one of so many bytes.
-fn compare<R: Read>(session: &[u8], stored: usize, file: &mut R) -> bool {
+// Whether a session's transcript is the stored one, which is read to its end, so that the next vector is in its place.
+fn compare<R: Read>(session: &[u8], stored: &mut Take<R>) -> bool {
     let mut cursor = session::replay::start();
-    let mut left = stored;
     let mut same = true;
     while !cursor.done {
-        let r = compare_chunk(cursor, left, session, file);
-        let next = r.cursor;
+        let (next, goes_on) = compare_chunk(cursor, session, stored);
         cursor = next;
-        left = r.left;
-        same = same & r.same;
+        same &= goes_on;
     }
-    skip(file, left);
-    same & (left == 0)
+    let ends = stored.limit() == 0;
+    let _ = std::io::copy(stored, &mut std::io::sink());
+    same & ends
 }
 
-// The next vector of the file.
-fn next<R: Read>(file: &mut R) -> Shown {
+// Whether the transcript of the file's next vector is the stored one; none at the end.
+fn next<R: Read>(file: &mut R) -> Option<bool> {
     let mut head = [0u8; 6];
-    if read_full(file, &mut head) < 6 {
-        return Shown::Nothing;
-    }
-    let size = joined(head[0], head[1]);
-    let stored = joined(head[2], head[3]) + 65536 * joined(head[4], head[5]);
-    let mut session = io::large_buffer();
-    let n = read_part(file, &mut session, size);
-    let same = compare(&session[..n], stored, file);
-    Shown::Compared(same & (n == size))
+    let Ok([s0, s1, t0, t1, t2, t3]) = input::read_full(file, &mut head) else {
+        return None;
+    };
+    let size = usize::from(u16::from_le_bytes([*s0, *s1]));
+    let stored = u64::from(u32::from_le_bytes([*t0, *t1, *t2, *t3]));
+    let mut buf = io::large_buffer();
+    let session = read_part(file, size, &mut buf);
+    let same = compare(session, &mut file.by_ref().take(stored));
+    Some(same & (session.len() == size))
 }
 
-fn say(run: u64, differ: u64) {
-    io::print_decimal(STDOUT_FILENO, run);
-    io::write_all(STDOUT_FILENO, b" run, ");
-    io::print_decimal(STDOUT_FILENO, differ);
-    io::write_all(STDOUT_FILENO, b" differ\n");
+fn report(run: usize, differ: usize) {
+    say_decimal(run);
+    say(b" run, ");
+    say_decimal(differ);
+    say(b" differ\n");
 }
 
-// Every vector of the file, a million at the most.
+// Every vector of the file, up to so many.
 fn run_all<R: Read>(file: &mut R) {
-    let mut run: u64 = 0;
-    let mut differ: u64 = 0;
-    while run < 1000000 {
-        let Shown::Compared(same) = next(file) else {
-            say(run, differ);
+    let mut differ: usize = 0;
+    for run in 0..MOST {
+        let Some(same) = next(file) else {
+            report(run, differ);
             return;
         };
-        run += 1;
-        if !same {
-            differ += 1;
-        }
+        differ += usize::from(!same);
     }
-    say(run, differ);
-}
-
-fn to_go_on(rt: &HostRuntime) -> bool {
-    input::goes_on(
-        rt,
-        b"usage: vectors FILE\nRuns the stored sessions in FILE and says how many transcripts differ from the stored ones.\n",
-        b"",
-    )
+    report(MOST, differ);
 }
 
 fn main(rt: HostRuntime) {
-    if !to_go_on(&rt) {
+    if !input::goes_on(&rt, USAGE, b"") {
         return;
     }
     let Some(mut file) = input::open(&rt) else {

@@ -38,6 +38,7 @@ fn put_wrong(out: &mut [u8], place: usize, code: u8) -> usize
 }
 
 // Writes a verdict as a line, `whole`, `open` or `wrong at K (CODE)`, to the front of a buffer, and answers how many bytes it wrote.
+// Not by a Display: `LineWritten` says each byte of the line and what the buffer holds beyond.
 pub fn put_verdict(out: &mut [u8; ROOM], v: Verdict) -> usize
     ensures { LineWritten v out.old out.new result }
 {

@@ -2,29 +2,28 @@
 #![tactic(auto)]
 
 mod events;
-mod numbers;
 mod output;
 mod refused;
 mod walk;
 
-use input::Input;
+use records::reading::MOST_SESSION;
+use wording::text::Paper;
 
-fn to_go_on(rt: &HostRuntime) -> bool {
-    input::goes_on(
-        rt,
-        b"usage: view [--color] [FILE]\nShows the session in FILE, or in standard input, in words.\n--color shows it in colour.\n",
-        b"--color",
-    )
-}
+const USAGE: &[u8] =
+    b"usage: view [--color] [FILE]\nShows the session in FILE, or in standard input, in words.\n--color shows it in colour.\n";
 
 // One byte more than a session may have is enough to refuse it for its size.
 fn main(rt: HostRuntime) {
-    if !to_go_on(&rt) {
+    if !input::goes_on(&rt, USAGE, b"--color") {
         return;
     }
-    let mut session = [0u8; 32769];
-    let Input::Whole(n) = input::read(&rt, &mut session) else {
-        return;
+    let paper = if input::option(&rt, b"--color") {
+        Paper::Colored
+    } else {
+        Paper::Plain
     };
-    walk::show(input::option(&rt, b"--color"), &session[..n]);
+    let mut buf = [0u8; MOST_SESSION + 1];
+    if let Some(session) = input::read(&rt, &mut buf) {
+        walk::show(paper, session);
+    }
 }

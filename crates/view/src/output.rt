@@ -1,78 +1,25 @@
 // What a step of the replay wrote: at most a record of actions and one of replies, or a refusal.
+ghost use Rattle.std.specs.Prelude.{◌<◌, length, IfSome};
+
 use crate::refused::{Refused, read_refusal};
-use records::reading::{Record, record_at};
-use wording::replies::say_replies;
-use wording::waveform::say_actions;
+use records::kinds::OutputKind;
+use records::reading::record_at;
 
-// The kinds of the records.
-pub(crate) const REPLIES: usize = 0x0101;
-
-pub(crate) const ACTIONS: usize = 0x0102;
-
-const REFUSAL: usize = 0x01FF;
-
-// A record: its kind, how many bytes its body has, and where it ends; kind 0 where there is none.
-#[derive(Clone, Copy)]
-pub(crate) struct Part {
-    pub kind: usize,
-    pub size: usize,
-    pub end: usize,
-}
-
-fn say_body(color: bool, kind: usize, body: &[u8], session: &[u8], sampled: usize, codes: usize) {
-    if kind == ACTIONS {
-        say_actions(body, session, sampled);
-        return;
-    }
-    if kind == REPLIES {
-        say_replies(color, body, codes);
-    }
-}
-
-// The record at a place in words; so many of the replies are codes, and the samples stand in the session from a place on.
-pub(crate) fn say_part(
-    color: bool,
-    out: &[u8],
-    at: usize,
-    session: &[u8],
-    sampled: usize,
-    codes: usize,
-) -> Part {
-    let there = record_at(out, at);
-    let Record::Body { kind, start, end } = there else {
-        return Part {
-            kind: 0,
-            size: 0,
-            end: at,
-        };
+// The first record of an output, by its kind and its body, and what stands after it.
+pub(crate) fn first_record(out: &[u8]) -> Option<(OutputKind, &[u8], &[u8])>
+    ensures { IfSome result (λ r. length r.2.now < length out.now) }
+{
+    let Ok(Some(body)) = record_at(out, 0) else {
+        return None;
     };
-    say_body(color, kind, &out[start..end], session, sampled, codes);
-    Part {
-        kind,
-        size: end - start,
-        end,
-    }
+    let kind = OutputKind::try_from(body.kind).ok()?;
+    Some((kind, &out[body.start..body.end], &out[body.end..]))
 }
 
-// The refusal that a step wrote, or the number 0.
-pub(crate) fn refusal_in(out: &[u8]) -> Refused {
-    let there = record_at(out, 0);
-    let Record::Body {
-        kind,
-        start: _,
-        end: _,
-    } = there
-    else {
-        return Refused {
-            number: 0,
-            place: 0,
-        };
-    };
-    if kind == REFUSAL {
-        return read_refusal(out);
-    }
-    Refused {
-        number: 0,
-        place: 0,
+// The refusal that a step wrote, if it wrote one.
+pub(crate) fn refusal_in(out: &[u8]) -> Option<Refused> {
+    match first_record(out)? {
+        (OutputKind::Refusal, body, _) => read_refusal(body),
+        _ => None,
     }
 }

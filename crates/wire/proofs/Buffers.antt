@@ -4,13 +4,10 @@ use mathlib.Core.Bool.{true, false}
 use mathlib.Core.List.{List, [], ◌∷◌, ◌++◌, append-nil, append_assoc}
 use Prim.Native.Nat.{ℕ, zero, suc, ◌+◌, ◌-◌, ◌≤◌, ◌<◌}
 use native.Mathlib.Nat.{add_assoc, add-zero, zero-add, add-suc, suc-add, le_of_eq}
-use native.Mathlib.Decide.{dec_le}
 use native.Mathlib.Omega.{arith}
-use native.Mathlib.Numerals.{add-one}
-use borrow.Author.Tests.{le-leb, lt-leb, leb-true}
-use lib.Dec.{leb}
-use lib.ListN.{get_or, length, take, drop, set, length-append, length-take, length-drop, drop_of_length-le}
-use lib.Seq.{drop-cons, length-sets, sets-eq, take_all, take-set-le, drop-set-lt, length-take-le, take-append_seam, drop-append_seam}
+use borrow.Author.Tests.{lt-leb, leb-true}
+use lib.ListN.{length, take, drop, set, length-append, length-take, length-drop, drop_of_length-le}
+use lib.Seq.{length-sets, sets-eq, take_all, take-set-le, drop-set-lt, length-take-le, take-append_seam, drop-append_seam}
 use Rattle.wire.specs.Buffer.{overwrite, fits_in, Written, Overwritten}
 
 pub overwrite_length : (l : List ℕ) (at : ℕ) (xs : List ℕ) → length (overwrite l at xs) ≡ length l
@@ -29,14 +26,6 @@ written_whole l xs e w =
 -- a mark past the end leaves room for nothing, not even for zero bytes
 pub past_the_end : (size mark need : ℕ) → size < mark → fits_in size mark need ≡ false
 past_the_end size mark need h = lt-leb (mark + need) size (omega arith)
-
--- the room after a mark is what the mark leaves of the size
-pub room_left : (size mark need : ℕ) → mark ≤ size → leb need (size - mark) ≡ fits_in size mark need
-room_left size mark need h = go (dec_le need (size - mark))
-  where
-    go : Dec (need ≤ size - mark) → leb need (size - mark) ≡ leb (mark + need) size
-    go (yes k) = le-leb need (size - mark) k ∙ sym (le-leb (mark + need) size (omega arith))
-    go (no k) = lt-leb need (size - mark) (omega arith) ∙ sym (lt-leb (mark + need) size (omega arith))
 
 -- nothing written changes nothing
 pub overwrite_none : (l : List ℕ) (at : ℕ) → overwrite l at [] ≡ l
@@ -138,17 +127,3 @@ part_start size mark need h = omega (arith, leb-true (mark + need) size h)
 
 pub part_room : (mark need : ℕ) (l : List ℕ) → fits_in (length l) mark need ≡ true → need ≤ length (take (length l - mark) (drop mark l))
 part_room mark need l h = simp (length-take, length-drop) (omega (arith, leb-true (mark + need) (length l) h))
-
--- one byte of a row: a turn of a loop that writes it
-pub put_turn : (l : List ℕ) (at : ℕ) (xs : List ℕ) (i : ℕ) → i < length xs → overwrite (set l (at + i) (get_or xs i 0)) (at + (i + 1)) (drop (i + 1) xs) ≡ overwrite l (at + i) (drop i xs)
-unfolding overwrite
-put_turn l at xs i h =
-    let e : at + (i + 1) ≡ suc (at + i) = omega arith in
-    rw (e, add-one, drop-cons xs i 0 h)
-
--- a loop that has written every byte of a row
-pub put_done : (l : List ℕ) (at : ℕ) (xs m : List ℕ) (i : ℕ) → i ≡ length xs → overwrite m (at + i) (drop i xs) ≡ overwrite l (at + 0) xs → Written l at xs m (at + i)
-put_done l at xs m i e q = record {
-  bytes = sym (overwrite_none m (at + i)) ∙ ap (overwrite m (at + i)) (sym (drop_of_length-le xs {i = i} (omega arith))) ∙ q ∙ ap (λ (k : ℕ). overwrite l k xs) (add-zero at);
-  after = ap (λ (k : ℕ). at + k) e;
-}

@@ -1,9 +1,13 @@
 -- Laws of a line's level, and of the samples that actions take. Assumes nothing.
 use mathlib.Core.Path.{◌≡◌, refl, sym, ap, ◌∙◌}
+use mathlib.Core.Bool.{not}
 use mathlib.Core.List.{List, [], ◌∷◌, ◌++◌}
 use Prim.Native.Nat.{ℕ, zero, suc, ◌+◌, ◌<◌}
 use native.Mathlib.Nat.{add-zero}
 use native.Mathlib.Omega.{arith}
+use borrow.Author.Tests.{ne_eqb}
+use lib.Dec.{eqb}
+use mir.Val.{bool_byte}
 use Rattle.wire.specs.Action.{Action}
 use Rattle.wire.specs.Sample.{byte_at, level_of, samplings, SameFrom}
 
@@ -12,15 +16,11 @@ unfolding level_of
 level_bit zero = omega arith
 level_bit (suc s) = omega arith
 
-pub level_low : (s : ℕ) → s ≡ 0 → 0 ≡ level_of s
+-- .. and as the code has it: 1 for any sample but 0
+pub level_byte : (s : ℕ) → bool_byte (not (eqb s 0)) ≡ level_of s
 unfolding level_of
-level_low zero e = refl
-level_low (suc s) e = absurd (omega arith)
-
-pub level_high : (s : ℕ) → (s ≡ 0 → ⊥) → 1 ≡ level_of s
-unfolding level_of
-level_high zero n = absurd (n refl)
-level_high (suc s) n = refl
+level_byte zero = refl
+level_byte (suc s) = rw (ne_eqb (suc s) 0 (λ e. omega (arith, e)))
 
 -- SAMPLES TAKEN
 

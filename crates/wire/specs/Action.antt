@@ -1,6 +1,7 @@
 -- Actions on the lines (01, "What goes in and comes out"): "An action is four bytes: verb, line, value (16 bits,
--- little-endian); unused fields are 0."
+-- little-endian); unused fields are 0." Its fields are declared in src/lib.rt.
 use Rattle.std.specs.Prelude.{ℕ, ◌/◌, ◌%◌, List, [], ◌∷◌, ◌++◌}
+use Rattle.wire.specs.declared.Action as declared
 
 -- THE VERBS, in 01's order
 abbrev pub release : ℕ
@@ -74,10 +75,8 @@ abbrev pub no_line : ℕ
 no_line = 0
 
 -- 01's term: action
-pub record Action : Type 0 where
-  pub verb : ℕ
-  pub line : ℕ
-  pub value : ℕ
+abbrev pub Action : Type 0
+Action = declared.Action
 
 abbrev pub action : ℕ → ℕ → ℕ → Action
 action v l n = record { verb = v; line = l; value = n }

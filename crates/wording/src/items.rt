@@ -1,54 +1,53 @@
 // The items of a session by name: which command a byte is, and the one whose operand is waited for.
-use crate::text::{say, say_count, say_words};
+use crate::text::{say, say_count};
 use commands::checks::is_selected;
-use commands::decoding::command_of;
-use names::ROWS;
+use commands::decoding::{command_of, extended_command_of};
 use registers::{Operand, PortRegister, State, Wait};
 
 fn say_name(row: usize) {
-    let name = names::name(row);
-    say_words(&name);
+    say(padding::trimmed(&names::name(row)));
 }
 
-fn setup_code(r: PortRegister) -> u8 {
-    match r {
-        PortRegister::Ddrb => 0x0B,
-        PortRegister::Portb => 0x0D,
-        PortRegister::Ddrc => 0x0F,
-        PortRegister::Portc => 0x11,
-        PortRegister::Ddrd => 0x13,
-        PortRegister::Portd => 0x15,
-    }
-}
-
-// The row of the command whose operand it is.
-fn operand_row(o: Operand) -> usize {
+// The code of the command whose operand it is, and whether that comes after 1D.
+fn command_code(o: Operand) -> (u8, bool) {
     match o {
-        Operand::ToPort(r) => names::find(setup_code(r), false),
-        Operand::ToCycles => names::find(0x0E, true),
-        Operand::ToI2c => names::find(0x22, false),
-        Operand::ToConfig => names::find(0x40, false),
-        Operand::ToSize => names::find(0x42, false),
-        Operand::ToOneWire => names::find(0x61, false),
-        Operand::ToOneWireBit => names::find(0x63, false),
-        Operand::ToOneWireStrong => names::find(0x67, false),
+        Operand::ToPort(PortRegister::Ddrb) => (0x0B, false),
+        Operand::ToPort(PortRegister::Portb) => (0x0D, false),
+        Operand::ToPort(PortRegister::Ddrc) => (0x0F, false),
+        Operand::ToPort(PortRegister::Portc) => (0x11, false),
+        Operand::ToPort(PortRegister::Ddrd) => (0x13, false),
+        Operand::ToPort(PortRegister::Portd) => (0x15, false),
+        Operand::ToCycles => (0x0E, true),
+        Operand::ToI2c => (0x22, false),
+        Operand::ToConfig => (0x40, false),
+        Operand::ToSize => (0x42, false),
+        Operand::ToOneWire => (0x61, false),
+        Operand::ToOneWireBit => (0x63, false),
+        Operand::ToOneWireStrong => (0x67, false),
     }
 }
 
 fn say_operand(o: Operand) {
+    let (code, extended) = command_code(o);
     say(b"operand of ");
-    say_name(operand_row(o));
+    if let Some(row) = names::find(code, extended) {
+        say_name(row);
+    }
 }
 
 // The command that a byte is, between commands or after 1D.
 fn say_command(extended: bool, byte: u8, flags: u8) {
-    let row = names::find(byte, extended);
-    if row == ROWS {
+    let Some(row) = names::find(byte, extended) else {
         say(b"unknown");
         return;
-    }
+    };
     say_name(row);
-    if !is_selected(flags, command_of(extended, byte)) {
+    let c = if extended {
+        extended_command_of(byte)
+    } else {
+        command_of(byte)
+    };
+    if !matches!(c, Some(c) if is_selected(flags, c)) {
         say(b" without its interface");
     }
 }
@@ -59,8 +58,7 @@ pub fn say_byte(s: State, byte: u8) {
         say(b"dropped");
         return;
     }
-    let w = s.wait;
-    match w {
+    match s.wait {
         Wait::Nothing => say_command(false, byte, s.page.flags),
         Wait::One(o) => say_operand(o),
         Wait::Extended => say_command(true, byte, s.page.flags),
@@ -86,8 +84,7 @@ pub fn say_wait(s: State) {
         say(b"drops the next byte");
         return;
     }
-    let w = s.wait;
-    match w {
+    match s.wait {
         Wait::Nothing => say(b"idle"),
         Wait::One(o) => {
             say(b"waits for the ");

@@ -10,23 +10,23 @@ use Rattle.i2c_bus.proofs.put_bits.Goals as goal
 
 pub loop-i-init : goal.loop-i-init
 loop-i-init c =
-    (omega arith, omega arith, owed_all _ _ _ _)
+    (omega arith, owed_all _ _ _ _)
 
-pub put_bit-n-requires : goal.put_bit-n-requires
-put_bit-n-requires c =
+pub put_actions-at-requires : goal.put_actions-at-requires
+put_actions-at-requires c =
     let byte = c.args.byte in
-    owed_fits i2c_bit (byte_bits byte) c.loop-i.invariant.2 (omega (arith, length_byte byte)) (byte_at byte c.loop-i.i (search rules)) c.requires
+    rw c.bit_row.ensures (owed_fits i2c_bit (byte_bits byte) c.loop-i.invariant.1 (omega (arith, length_byte byte)) (byte_at byte c.loop-i.i (search rules)) c.requires)
 
 pub loop-i-preserved : goal.loop-i-preserved
 loop-i-preserved c =
     let byte = c.args.byte in
-    let o = owed_turn i2c_bit (byte_bits byte) c.loop-i.invariant.2 (omega (arith, length_byte byte)) (byte_at byte c.loop-i.i (search rules)) c.put_bit-n.ensures in
-    (omega arith, owed_within o c.requires, o)
+    let o = owed_turn i2c_bit (byte_bits byte) c.loop-i.invariant.1 (omega (arith, length_byte byte)) (byte_at byte c.loop-i.i (search rules)) (rw c.bit_row.ensures at c.put_actions-at.ensures) in
+    (owed_within o c.requires, o)
 
 pub shape_of-out : goal.shape_of-out
 shape_of-out c =
-    c.loop-i.invariant.2.size
+    c.loop-i.invariant.1.size
 
 pub returns : goal.returns
 returns c =
-    owed_none i2c_bit _ c.loop-i.invariant.2 (omega (arith, length_byte c.args.byte))
+    owed_none i2c_bit _ c.loop-i.invariant.1 (omega (arith, length_byte c.args.byte))

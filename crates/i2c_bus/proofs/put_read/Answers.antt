@@ -9,24 +9,33 @@ use Rattle.i2c_bus.proofs.put_read.Goals as goal
 pub returns : goal.returns
 unfolding for_each
 returns c =
-    joined (for_each (λ _. i2c_sampled) (zeros 8)) (i2c_bit c.args.answer) c.put_samples-at.ensures c.put_bit.ensures
+    joined (for_each (λ _. i2c_sampled) (zeros 8)) (i2c_bit c.args.answer) (rw c.sampled_row.ensures at c.put_repeated-at.ensures) (rw c.bit_row.ensures at c.put_actions.ensures)
 
-pub put_samples-at-requires : goal.put_samples-at-requires
+pub put_repeated-at-requires : goal.put_repeated-at-requires
 unfolding for_each
-put_samples-at-requires c = search rules
+put_repeated-at-requires c = rw c.sampled_row.ensures (search rules)
 
-pub slice_bounds-put_bit-count : goal.slice_bounds-put_bit-count
+pub slice_bounds-put_actions-count : goal.slice_bounds-put_actions-count
 unfolding for_each
-slice_bounds-put_bit-count c = search rules
+slice_bounds-put_actions-count c =
+    let e = rw c.sampled_row.ensures at c.put_repeated-at.ensures in
+    search (rules, e)
 
-pub slice_bounds-put_bit-start : goal.slice_bounds-put_bit-start
+pub slice_bounds-put_actions-start : goal.slice_bounds-put_actions-start
 unfolding for_each
-slice_bounds-put_bit-start c = search rules
+slice_bounds-put_actions-start c =
+    let e = rw c.sampled_row.ensures at c.put_repeated-at.ensures in
+    search (rules, e)
 
-pub put_bit-requires : goal.put_bit-requires
+pub put_actions-requires : goal.put_actions-requires
 unfolding for_each
-put_bit-requires c = search rules
+put_actions-requires c =
+    let e = rw c.sampled_row.ensures at c.put_repeated-at.ensures in
+    rw c.bit_row.ensures (search (rules, e))
 
 pub overflow_add-result : goal.overflow_add-result
 unfolding for_each
-overflow_add-result c = search rules
+overflow_add-result c =
+    let e = rw c.sampled_row.ensures at c.put_repeated-at.ensures in
+    let f = rw c.bit_row.ensures at c.put_actions.ensures in
+    search (rules, e, f)

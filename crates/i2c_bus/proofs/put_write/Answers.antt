@@ -9,24 +9,26 @@ use Rattle.i2c_bus.proofs.put_write.Goals as goal
 pub returns : goal.returns
 unfolding for_each byte_bits
 returns c =
-    joined (for_each i2c_bit (byte_bits c.args.byte)) i2c_sampled c.put_bits-at.ensures c.put_sampled.ensures
+    joined (for_each i2c_bit (byte_bits c.args.byte)) i2c_sampled c.put_bits-at.ensures (rw c.sampled_row.ensures at c.put_actions.ensures)
 
 pub put_bits-at-requires : goal.put_bits-at-requires
 unfolding for_each byte_bits
 put_bits-at-requires c = search rules
 
-pub slice_bounds-put_sampled-count : goal.slice_bounds-put_sampled-count
+pub slice_bounds-put_actions-count : goal.slice_bounds-put_actions-count
 unfolding for_each byte_bits
-slice_bounds-put_sampled-count c = search rules
+slice_bounds-put_actions-count c = search rules
 
-pub slice_bounds-put_sampled-start : goal.slice_bounds-put_sampled-start
+pub slice_bounds-put_actions-start : goal.slice_bounds-put_actions-start
 unfolding for_each byte_bits
-slice_bounds-put_sampled-start c = search rules
+slice_bounds-put_actions-start c = search rules
 
-pub put_sampled-requires : goal.put_sampled-requires
+pub put_actions-requires : goal.put_actions-requires
 unfolding for_each byte_bits
-put_sampled-requires c = search rules
+put_actions-requires c = rw c.sampled_row.ensures (search rules)
 
 pub overflow_add-result : goal.overflow_add-result
 unfolding for_each byte_bits
-overflow_add-result c = search rules
+overflow_add-result c =
+    let e = rw c.sampled_row.ensures at c.put_actions.ensures in
+    search (rules, e)

@@ -1,6 +1,6 @@
 -- The loop's invariant: what writing the slots of the bits that are left leaves is what writing all of them leaves.
 use mathlib.Core.List.{List}
-use Prim.Native.Nat.{ℕ, ◌-◌, ◌≤◌}
+use Prim.Native.Nat.{ℕ, ◌≤◌}
 use lib.ListN.{length, take}
 use Rattle.wire.specs.Action.{Action, release}
 use Rattle.one_wire_bus.specs.OneWire.{write_slot, low_first}
@@ -12,7 +12,4 @@ abbrev pub row : Waits → ℕ → List Action
 row w = write_slot w release
 
 abbrev pub invariant-loop-i : goal.invariant-loop-i
-invariant-loop-i l = (l.i ≤ l.n) × (l.at ≤ length l.out) × Owed (row l.w) (take l.n (low_first l.byte)) l.initial.out 0 l.i l.out l.at
-
-abbrev pub decreases-loop-i : goal.decreases-loop-i
-decreases-loop-i l = l.n - l.i
+invariant-loop-i l = (l.at ≤ length l.out) × Owed (row l.w) (take l.n (low_first l.byte)) l.initial.out 0 l.i l.out l.at

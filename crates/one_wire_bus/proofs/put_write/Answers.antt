@@ -5,7 +5,7 @@ use Prim.Native.Nat.{◌-◌, ◌≤◌}
 use native.Mathlib.Omega.{arith}
 use lib.ListN.{length, get_or, take}
 use Rattle.wire.specs.Action.{Action, bytes_of, release}
-use Rattle.lines.specs.Lines.{verb_for, for_each}
+use Rattle.lines.specs.Lines.{for_each}
 use Rattle.one_wire_bus.specs.OneWire.{write_slot, low_first, write_slots}
 use Rattle.one_wire_bus.specs.declared.Waits.{Waits}
 use Rattle.lines.proofs.Rows.{joined, first_fits, second_within, second_fits, same_written, same_room}
@@ -31,35 +31,36 @@ put_bits-at-requires c =
     let g = (goal.at.put_bits-at-requires c).After-write_waits-w in
     (omega (arith, c.requires.0.0, c.requires.0.1), first_fits (first g) (last g) (all_fit g))
 
-pub slice_bounds-put_slot-count : goal.slice_bounds-put_slot-count
+pub slice_bounds-put_actions-count : goal.slice_bounds-put_actions-count
 unfolding write_slots
-slice_bounds-put_slot-count c =
-    let g = (goal.at.slice_bounds-put_slot-count c).After-write_waits-w in
+slice_bounds-put_actions-count c =
+    let g = (goal.at.slice_bounds-put_actions-count c).After-write_waits-w in
     omega (arith, second_within (first g) (last g) (all_fit g) c.put_bits-at.ensures)
 
-pub slice_bounds-put_slot-start : goal.slice_bounds-put_slot-start
+pub slice_bounds-put_actions-start : goal.slice_bounds-put_actions-start
 unfolding write_slots
-slice_bounds-put_slot-start c =
-    let g = (goal.at.slice_bounds-put_slot-start c).After-write_waits-w in
+slice_bounds-put_actions-start c =
+    let g = (goal.at.slice_bounds-put_actions-start c).After-write_waits-w in
     omega (arith, second_within (first g) (last g) (all_fit g) c.put_bits-at.ensures)
 
-pub slice_bounds-put_slot-end : goal.slice_bounds-put_slot-end
+pub slice_bounds-put_actions-end : goal.slice_bounds-put_actions-end
 unfolding write_slots
-slice_bounds-put_slot-end c =
-    let g = (goal.at.slice_bounds-put_slot-end c).After-write_waits-w in
+slice_bounds-put_actions-end c =
+    let g = (goal.at.slice_bounds-put_actions-end c).After-write_waits-w in
     omega (arith, second_within (first g) (last g) (all_fit g) c.put_bits-at.ensures)
 
-pub put_slot-requires : goal.put_slot-requires
+pub put_actions-requires : goal.put_actions-requires
 unfolding write_slots
-put_slot-requires c =
-    let g = (goal.at.put_slot-requires c).After-write_waits-w in
-    second_fits (first g) (last g) (all_fit g) c.put_bits-at.ensures
+put_actions-requires c =
+    let g = (goal.at.put_actions-requires c).After-write_waits-w in
+    rw c.write_slot.ensures (second_fits (first g) (last g) (all_fit g) c.put_bits-at.ensures)
 
 pub overflow_add-result : goal.overflow_add-result
 unfolding write_slots
 overflow_add-result c =
     let g = (goal.at.overflow_add-result c).After-write_waits-w in
-    omega (arith, second_within (first g) (last g) (all_fit g) c.put_bits-at.ensures)
+    let e = rw c.write_slot.ensures at c.put_actions.ensures in
+    omega (arith, second_within (first g) (last g) (all_fit g) c.put_bits-at.ensures, e.after)
 
 pub returns : goal.returns
 unfolding write_slots
@@ -69,5 +70,5 @@ returns c =
     let byte = c.args.byte in
     let fifth = c.args.fifth in
     let e = ap (λ (w : Waits). bytes_of (write_slots w n fifth byte)) (sym c.write_waits-w.ensures) in
-    let x : c.verb_for-verb.result ≡ verb_for release (get_or (low_first byte) (n - 1) 0) = c.verb_for-verb.ensures ∙ ap (verb_for release) (sym (low_at byte (n - 1) (omega (arith, c.requires.0.0, c.requires.0.1)))) in
-    same_written e (joined (first g) (last g) c.put_bits-at.ensures (rw x at c.put_slot.ensures))
+    let x : c.write_slot.result ≡ last g = c.write_slot.ensures ∙ ap (write_slot c.write_waits-w.result fifth) (sym (low_at byte (n - 1) (omega (arith, c.requires.0.0, c.requires.0.1)))) in
+    same_written e (joined (first g) (last g) c.put_bits-at.ensures (rw x at c.put_actions.ensures))

@@ -12,7 +12,7 @@ use Rattle.packet.proofs.clear.Goals as goal
 
 pub loop-i-init : goal.loop-i-init
 loop-i-init c =
-    (omega arith, search rules, omega arith, fill_start register_bytes (zeros register_bytes) (kept width c.args.n (bits c.args.r)) refl)
+    (search rules, omega arith, fill_start register_bytes (zeros register_bytes) (kept width c.args.n (bits c.args.r)) refl)
 
 pub loop-i-preserved : goal.loop-i-preserved
 loop-i-preserved c =
@@ -20,13 +20,12 @@ loop-i-preserved c =
     let i = c.loop-i.i in
     let t = cleared width c.args.n r in
     let l : length t ≡ register_bytes = length_register register_bytes (kept width c.args.n (bits r)) in (
-      omega arith,
       simp length-set (omega arith),
       omega arith,
-      fill_turn c.loop-i.q t i _ (search rules) (omega arith) (omega arith) (c.low_bits-b.ensures ∙ kept_at register_bytes c.args.n (i - 1) c.loop-i.left r c.well_formed.0.1.0.1 (omega arith) (omega arith)) c.loop-i.invariant.3,
+      fill_turn c.loop-i.q t i _ (search rules) (omega arith) (omega arith) (c.low_bits.ensures ∙ kept_at register_bytes c.args.n (i - 1) c.loop-i.left r c.well_formed.0.1.0.1 (omega arith) (omega arith)) c.loop-i.invariant.2,
     )
 
 pub returns : goal.returns
 returns c =
     let z : c.loop-i.i ≡ 0 = omega arith in
-    rw z at c.loop-i.invariant.3
+    rw z at c.loop-i.invariant.2

@@ -13,17 +13,16 @@ use Rattle.packet.proofs.load.Goals as goal
 pub loop-i-init : goal.loop-i-init
 unfolding from_held
 loop-i-init c =
-    (omega arith, refl, refl)
+    (refl, refl)
 
 pub loop-i-preserved : goal.loop-i-preserved
 unfolding from_held
 loop-i-preserved c =
     let held = c.args.held.now in (
-      omega arith,
       simp length-set (omega arith),
-      ap (λ (b : ℕ). take (c.loop-i.i + 1) (set c.loop-i.q c.loop-i.i b) ++ from_held (register_bytes - (c.loop-i.i + 1)) held) c.byte_at-b.ensures
-          ∙ load_turn register_bytes c.loop-i.q held c.loop-i.i (search rules) c.loop-i.invariant.1
-          ∙ c.loop-i.invariant.2,
+      ap (λ (b : ℕ). take (c.loop-i.i + 1) (set c.loop-i.q c.loop-i.i b) ++ from_held (register_bytes - (c.loop-i.i + 1)) held) c.byte_at.ensures
+          ∙ load_turn register_bytes c.loop-i.q held c.loop-i.i (search rules) c.loop-i.invariant.0
+          ∙ c.loop-i.invariant.1,
     )
 
 pub returns : goal.returns
@@ -34,4 +33,4 @@ returns c =
     sym (take_all c.loop-i.i c.loop-i.q (omega arith))
     ∙ sym (append-nil (take c.loop-i.i c.loop-i.q))
     ∙ ap (λ (k : ℕ). take c.loop-i.i c.loop-i.q ++ from_held k held) (sym z)
-    ∙ c.loop-i.invariant.2
+    ∙ c.loop-i.invariant.1

@@ -20,7 +20,7 @@ returns-then-n-ge-WIDTH c =
 pub loop-i-init : goal.loop-i-init
 loop-i-init c =
     let r = c.args.r in
-    (omega arith, refl, omega arith, sym (get_or-eq_default r 0 (omega (arith, c.well_formed.0.1.0.1))), fill_start register_bytes (zeros register_bytes) (moved_up (width - c.args.n) (bits r)) refl)
+    (refl, omega arith, sym (get_or-eq_default r 0 (omega (arith, c.well_formed.0.1.0.1))), fill_start register_bytes (zeros register_bytes) (moved_up (width - c.args.n) (bits r)) refl)
 
 pub overflow_add-i : goal.overflow_add-i
 overflow_add-i c =
@@ -33,16 +33,15 @@ loop-i-preserved c =
     let up = width - c.args.n in
     let l : length (bits_up register_bytes up r) ≡ register_bytes = length_register register_bytes (moved_up up (bits r)) in
     let next : i + up / 8 ≡ suc (i - 1 + up / 8) = omega arith in (
-      omega arith,
       simp length-set (omega arith),
       omega arith,
       c.byte_at-upper.ensures,
       fill_turn c.loop-i.q (bits_up register_bytes up r) i _ (search rules) (omega arith) (omega arith)
-          (byte_up register_bytes up (i - 1) r c.well_formed.0.1.0.1 (omega arith) (omega arith) (search rules) c.byte_at-upper.ensures (rw next at c.loop-i.invariant.3))
-          c.loop-i.invariant.4,
+          (byte_up register_bytes up (i - 1) r c.well_formed.0.1.0.1 (omega arith) (omega arith) (search rules) c.byte_at-upper.ensures (rw next at c.loop-i.invariant.2))
+          c.loop-i.invariant.3,
     )
 
 pub returns : goal.returns
 returns c =
     let z : c.loop-i.i ≡ 0 = omega arith in
-    rw z at c.loop-i.invariant.4
+    rw z at c.loop-i.invariant.3

@@ -2,14 +2,13 @@
 use borrow.Author.Rules.{rules}
 use native.Mathlib.Omega.{arith}
 use borrow.Author.Tests.{eq-eqb, ne_eqb}
-use Prim.Native.Nat.{ℕ, zero, suc, ◌-◌, ◌<◌, ◌≤◌}
+use Prim.Native.Nat.{ℕ, zero, suc, ◌+◌, ◌-◌, ◌<◌, ◌≤◌}
 use native.Mathlib.Nat.{not-suc-le-zero}
 use mathlib.Core.Path.{◌≡◌, refl, sym, ap, ◌∙◌}
 use mathlib.Core.Bool.{Bool, true, false, cond}
 use mathlib.Core.List.{List}
 use lib.Dec.{eqb}
 use lib.ListN.{get_or, take}
-use lib.Seq.{length-take-le}
 use Rattle.padding.specs.Padding.{size_within}
 use Rattle.padding.proofs.trimmed.Goals as goal
 
@@ -25,24 +24,18 @@ unfolding size_within
 none t zero h = refl
 none t (suc n) h = absurd (not-suc-le-zero h)
 
-pub loop-n-init : goal.loop-n-init
-loop-n-init c =
-    (search rules, refl)
-
-pub slice_bounds-result-end : goal.slice_bounds-result-end
-slice_bounds-result-end c =
-    sym (length-take-le _ _ c.loop-n.invariant.0)
-
-pub returns-then-text-n-ne32 : goal.returns-then-text-n-ne32
-returns-then-text-n-ne32 c =
+pub returns-then-text-i-ne32 : goal.returns-then-text-i-ne32
+returns-then-text-i-ne32 c =
     let t = c.args.text.now in
-    ap (λ (m : ℕ). take m t) (sym (turn t c.loop-n.n false (search rules) (ne_eqb _ _ c.if-text-n-ne32.true)) ∙ c.loop-n.invariant.1)
+    let i = c.loop-i.i in
+    let e : i - 1 + 1 ≡ i = omega arith in
+    ap (λ (m : ℕ). take m t) (e ∙ sym (turn t i false (search rules) (ne_eqb _ _ c.if-text-i-ne32.true)) ∙ c.loop-i.invariant)
 
-pub loop-n-preserved : goal.loop-n-preserved
-loop-n-preserved c =
-    (search rules, sym (turn c.args.text.now c.loop-n.n true (search rules) (eq-eqb _ _ c.if-text-n-ne32.false)) ∙ c.loop-n.invariant.1)
+pub loop-i-preserved : goal.loop-i-preserved
+loop-i-preserved c =
+    sym (turn c.args.text.now c.loop-i.i true (search rules) (eq-eqb _ _ c.if-text-i-ne32.false)) ∙ c.loop-i.invariant
 
 pub returns : goal.returns
 returns c =
     let t = c.args.text.now in
-    ap (λ (m : ℕ). take m t) (none t c.loop-n.n c.loop-n-test.false ∙ c.loop-n.invariant.1)
+    ap (λ (m : ℕ). take m t) (none t c.loop-i.i (omega arith) ∙ c.loop-i.invariant)

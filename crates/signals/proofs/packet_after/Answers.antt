@@ -8,9 +8,9 @@ use Rattle.signals.proofs.packet_after.Goals as goal
 pub returns-in-Exchange : goal.returns-in-Exchange
 unfolding wave_of
 returns-in-Exchange c =
-    c.packet_after.ensures ∙ sym (ap (λ (w : Waveform). (wave_of c.args.page w c.args.samples.now c.args.from).packet) c.in-Exchange.is)
+    c.packet_after.ensures ∙ sym (ap (λ (w : Waveform). (wave_of c.args.page w c.args.samples.now 0).packet) c.in-Exchange.is)
 
 pub returns-in_default : goal.returns-in_default
 unfolding wave_of
 returns-in_default c =
-    packet_kept c.args.page c.args.wave c.args.samples.now c.args.from (opened c.in_default.in_default-own.keys2)
+    packet_kept c.args.page c.args.wave c.args.samples.now 0 (opened c.in_default.in_default-own.keys2)

@@ -13,6 +13,6 @@ pub returns : goal.returns
 returns c =
     let p = c.args.page in
     let l : length p.packet ≡ register_bytes = c.well_formed.0.1.1.1.1.0.1.0.1 in
-    let ls = levels c.args.samples.now c.args.from (bits_in p) in
+    let ls = levels c.args.samples.now 0 (bits_in p) in
     (rw (c.high_first-high.ensures, c.bits_of-n.ensures) at c.exchange.ensures)
-    ∙ (exchange_right width (high_first p.config) ls p.packet (omega arith) (omega (arith, c.requires.0, length_levels c.args.samples.now c.args.from (bits_in p)))).holds
+    ∙ (exchange_right width (high_first p.config) ls p.packet (omega arith) (omega (arith, c.requires, length_levels c.args.samples.now 0 (bits_in p)))).holds

@@ -1,19 +1,24 @@
--- The goals that the search leaves.
-use borrow.Author.Rules.{rules}
-use mathlib.Core.Path.{refl, ◌∙◌}
+-- What the library copies into a part of a buffer is what is stored there.
+use mathlib.Core.Path.{refl, sym, ap, ◌∙◌}
+use mathlib.Core.List.{List, ◌++◌}
+use Prim.Native.Nat.{ℕ, ◌+◌, ◌-◌}
+use native.Mathlib.Nat.{le_refl}
 use native.Mathlib.Omega.{arith}
-use lib.ListN.{length-set}
-use Rattle.wire.proofs.Buffers.{put_turn, put_done}
+use lib.ListN.{length, take, drop}
+use lib.Seq.{take_all}
+use Rattle.std.proofs.lemmas.Slice.{put_mid-paste}
+use Rattle.wire.proofs.Buffers.{overwrite_right}
 use Rattle.wire.proofs.put_bytes.Goals as goal
-
-pub loop-i-init : goal.loop-i-init
-loop-i-init c =
-    (omega arith, refl, refl)
-
-pub loop-i-preserved : goal.loop-i-preserved
-loop-i-preserved c =
-    (omega arith, simp length-set (omega arith), put_turn _ _ _ _ (search rules) ∙ c.loop-i.invariant.2)
 
 pub returns : goal.returns
 returns c =
-    put_done _ _ _ _ _ (omega arith) c.loop-i.invariant.2
+    let out = c.args.out.now in
+    let row = c.args.row.now in
+    let at = c.args.at in
+    let n = length row in
+    record {
+      bytes = put_mid-paste at (at + n - at) out _ row n c.copy_from_slice.ensures.after (omega arith) refl
+          ∙ ap (λ (r : List ℕ). take at out ++ r ++ drop (at + n) out) (take_all n row (le_refl n))
+          ∙ sym ((overwrite_right out at row).parts c.requires);
+      after = refl;
+    }

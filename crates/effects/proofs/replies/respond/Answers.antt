@@ -1,58 +1,28 @@
--- Answer by answer, what it leaves and sends.
+-- A code stored, with its reply for each case of the reports.
+use mathlib.Core.Path.{refl}
+use mathlib.Core.List.{[], ◌∷◌, map}
+use Rattle.packet.specs.Packet.{low_bytes}
+use Rattle.registers.specs.Registers.{bits_in}
+use Rattle.decisions.specs.Said.{returned, sent, error_after, replies_of}
+use Rattle.effects.proofs.Responses.{stored_said, error_coded, coded_on, coded_off}
 use Rattle.effects.proofs.replies.respond.Goals as goal
 
-pub returns-in-Silent : goal.returns-in-Silent
-returns-in-Silent c =
-    rw c.in-Silent.is c.send.ensures
-
 pub returns-in-Returns : goal.returns-in-Returns
+unfolding error_after replies_of
 returns-in-Returns c =
-    rw c.in-Returns.is c.store.ensures
+    rw c.in-Returns.is (stored_said c.args.s _ _ _ (returned c.in-Returns.code ∷ []) c.store.ensures refl refl refl)
 
 pub returns-in-ReturnsTwice : goal.returns-in-ReturnsTwice
+unfolding error_after replies_of
 returns-in-ReturnsTwice c =
-    rw c.in-ReturnsTwice.is c.store_twice.ensures
-
-pub returns-in-ReturnsAndSends : goal.returns-in-ReturnsAndSends
-returns-in-ReturnsAndSends c =
-    rw c.in-ReturnsAndSends.is c.store_and_send.ensures
+    rw c.in-ReturnsTwice.is (stored_said c.args.s _ _ _ (returned 0x00 ∷ returned 0x00 ∷ []) c.store-in-ReturnsTwice.ensures refl refl refl)
 
 pub returns-in-Checked : goal.returns-in-Checked
+unfolding error_after replies_of
 returns-in-Checked c =
-    rw c.in-Checked.is c.check.ensures
-
-pub returns-in-Sends : goal.returns-in-Sends
-returns-in-Sends c =
-    rw c.in-Sends.is c.send-in-Sends.ensures
-
-pub returns-in-SendsSample : goal.returns-in-SendsSample
-returns-in-SendsSample c =
-    rw c.in-SendsSample.is c.send-in-SendsSample.ensures
-
-pub returns-in-SendsLevel : goal.returns-in-SendsLevel
-returns-in-SendsLevel c =
-    rw (c.in-SendsLevel.is, ← c.level_byte.ensures) c.send-in-SendsLevel.ensures
-
-pub returns-in-SendsEprom : goal.returns-in-SendsEprom
-returns-in-SendsEprom c =
-    rw c.in-SendsEprom.is c.send-in-SendsEprom.ensures
-
-pub returns-in-SendsSerial : goal.returns-in-SendsSerial
-returns-in-SendsSerial c =
-    rw c.in-SendsSerial.is c.send-in-SendsSerial.ensures
-
-pub returns-in-SendsTimings : goal.returns-in-SendsTimings
-returns-in-SendsTimings c =
-    rw c.in-SendsTimings.is c.send-in-SendsTimings.ensures
-
-pub returns-in-SendsPacket : goal.returns-in-SendsPacket
-returns-in-SendsPacket c =
-    rw c.in-SendsPacket.is c.send-in-SendsPacket.ensures
-
-pub returns-in-SendsLow : goal.returns-in-SendsLow
-returns-in-SendsLow c =
-    rw c.in-SendsLow.is c.send-in-SendsLow.ensures
+    rw (c.in-Checked.is, ← c.checked-code.ensures) (stored_said c.args.s _ _ _ (returned c.checked-code.result ∷ []) c.store-in-Checked.ensures refl refl refl)
 
 pub returns-in-ReturnsThenLow : goal.returns-in-ReturnsThenLow
 returns-in-ReturnsThenLow c =
-    rw c.in-ReturnsThenLow.is c.store_then_low.ensures
+    let low = low_bytes (bits_in c.args.s.page) c.args.s.page.packet in
+    rw c.in-ReturnsThenLow.is (stored_said c.args.s _ _ _ (returned 0x00 ∷ map sent low) c.store-in-ReturnsThenLow.ensures (error_coded c.args.s.page.error 0x00 low) (coded_on 0x00 low) (coded_off 0x00 low))

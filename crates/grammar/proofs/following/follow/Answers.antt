@@ -1,8 +1,8 @@
--- The goals that the search leaves.
-use borrow.Author.Rules.{rules}
-use mathlib.Core.Path.{◌≡◌, refl, sym, ap, ◌∙◌}
-use Prim.Native.Nat.{ℕ, suc, ◌+◌, ◌≤◌, ◌<◌}
+-- One byte more, and the end.
+use mathlib.Core.Path.{◌≡◌, sym, ap, ◌∙◌}
+use Prim.Native.Nat.{ℕ, suc, ◌+◌, ◌<◌}
 use mathlib.Core.List.{List}
+use borrow.Author.Rules.{rules}
 use native.Mathlib.Omega.{arith}
 use lib.ListN.{length, get_or, drop, drop_of_length-le}
 use lib.Seq.{drop-cons}
@@ -14,20 +14,13 @@ one_more : (bs : List ℕ) (g₀ g h : Scanner) (i : ℕ) → i < length bs → 
 unfolding followed
 one_more bs g₀ g h i l e q =
     let n : i + 1 ≡ suc i = omega arith in
-    rw (n, e) (sym (ap (λ (x : List ℕ). followed g x) (drop-cons bs i 0 l)) ∙ q)
+    rw (n, e) (sym (ap (followed g) (drop-cons bs i 0 l)) ∙ q)
 
-at_end_lem : (bs : List ℕ) (g₀ g : Scanner) (i : ℕ) → length bs ≤ i → followed g (drop i bs) ≡ followed g₀ bs → g ≡ followed g₀ bs
-unfolding followed
-at_end_lem bs g₀ g i l q = sym (ap (λ (x : List ℕ). followed g x) (drop_of_length-le bs l)) ∙ q
-
-pub loop-i-init : goal.loop-i-init
-loop-i-init c =
-    (omega arith, refl)
-
-pub loop-i-preserved : goal.loop-i-preserved
-loop-i-preserved c =
-    (search rules, one_more c.args.bytes.now _ c.loop-i.g _ c.loop-i.i (search rules) c.scanner_after-g.ensures c.loop-i.invariant.1)
+pub loop-b-preserved : goal.loop-b-preserved
+loop-b-preserved c =
+    one_more c.args.bytes.now _ c.loop-b.g _ c.loop-b.b-index (search rules) c.scanner_after-g.ensures c.loop-b.invariant
 
 pub returns : goal.returns
+unfolding followed
 returns c =
-    at_end_lem c.args.bytes.now _ c.loop-i.g c.loop-i.i (search rules) c.loop-i.invariant.1
+    sym (ap (followed c.loop-b.g) (drop_of_length-le c.args.bytes.now (omega arith))) ∙ c.loop-b.invariant

@@ -1,6 +1,6 @@
 -- By whether the byte is legal, and whether it is 1D between items.
 use mathlib.Core.Path.{sym, ap, ◌∙◌}
-use Rattle.grammar.specs.Scanner.{Accepted}
+use Rattle.std.specs.Prelude.{Ok}
 use Rattle.grammar.specs.Following.{opening_in}
 use Rattle.grammar.proofs.Scans.{rejected, opens, opens_none, accepted}
 use Rattle.grammar.proofs.scanning.open_item.Goals as goal
@@ -17,5 +17,5 @@ returns-then-b-extended c =
 pub returns : goal.returns
 returns c =
     let a = c.args in
-    ap Accepted c.advance.ensures
+    ap Ok c.advance.ensures
     ∙ accepted (opening_in a.b a.extended) a.c a.b _ _ (sym c.is_legal.ensures ∙ c.if-not-is_legal.false) (opens_none a.b a.extended c.if-b-extended.false) c.operands_of-n.ensures c.change_of-e.ensures

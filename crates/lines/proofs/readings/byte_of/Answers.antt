@@ -11,6 +11,6 @@ use Rattle.lines.proofs.readings.byte_of.Goals as goal
 
 pub returns : goal.returns
 returns c =
-    let ls = levels c.args.samples.now c.args.from 8 in
+    let ls = levels c.args.samples.now 0 8 in
     c.number_of.ensures
-    ∙ ap (number 0) (take_all 8 (order c.args.high ls) (omega (arith, length_order c.args.high ls, length_levels c.args.samples.now c.args.from 8)))
+    ∙ ap (number 0) (take_all 8 (order c.args.high ls) (omega (arith, length_order c.args.high ls, length_levels c.args.samples.now 0 8)))

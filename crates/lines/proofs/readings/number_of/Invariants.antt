@@ -8,7 +8,4 @@ use Rattle.lines.specs.Lines.{levels}
 use Rattle.lines.proofs.readings.number_of.Given as goal
 
 abbrev pub invariant-loop-i : goal.invariant-loop-i
-invariant-loop-i l = (l.first ≤ l.i) × (l.v < 2 ^ (l.i - l.first)) × (number l.v (slice l.i l.end (order l.high (levels l.samples l.from l.n))) ≡ number 0 (slice l.first l.end (order l.high (levels l.samples l.from l.n))))
-
-abbrev pub decreases-loop-i : goal.decreases-loop-i
-decreases-loop-i l = l.end - l.i
+invariant-loop-i l = (l.first ≤ l.i) × (l.v < 2 ^ (l.i - l.first)) × (number l.v (slice l.i l.end (order l.high (levels l.samples 0 l.n))) ≡ number 0 (slice l.first l.end (order l.high (levels l.samples 0 l.n))))

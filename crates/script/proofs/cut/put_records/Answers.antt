@@ -1,70 +1,41 @@
 -- The goals that the search leaves.
-use borrow.Author.Rules.{rules}
+use borrow.Author.Tests.{eqb-true, eqb-false}
+use Prim.Native.Nat.{◌+◌, ◌-◌, ◌≤◌, ◌<◌, min}
+use mathlib.Core.Path.{◌≡◌, sym, ◌∙◌}
 use native.Mathlib.Omega.{arith}
-use lib.ListN.{length-take, length-drop}
-use Rattle.script.proofs.Cutting.{cutting_first, cutting_full, cutting_on, cutting_last_full, cutting_done}
+use lib.ListN.{length, take, drop}
+use Rattle.std.proofs.lemmas.Grind.{common_steps}
+use Rattle.script.proofs.Cutting.{kind_written, cutting_first, cutting_full, cutting_done, cutting_on}
 use Rattle.script.proofs.cut.put_records.Goals as goal
 
-pub loop-from-init : goal.loop-from-init
-loop-from-init c =
-    cutting_first c.args.kind c.args.body.now c.args.place c.args.out.now c.args.at (search rules)
-
-pub overflow_sub-body : goal.overflow_sub-body
-overflow_sub-body c =
-    c.loop-from.invariant.1
-
-pub overflow_sub-out : goal.overflow_sub-out
-overflow_sub-out c =
-    let l = c.loop-from in omega (arith, l.invariant.0.within, l.invariant.0.same)
-
-pub shape_of-out-then-out-size : goal.shape_of-out-then-out-size
-shape_of-out-then-out-size c =
-    c.loop-from.invariant.0.same
+pub loop-out-init : goal.loop-out-init
+loop-out-init c =
+    let a = c.args in cutting_first a.kind a.body.now a.place a.out.now a.at c.requires
 
 pub returns-then-out-size : goal.returns-then-out-size
 returns-then-out-size c =
-    let l = c.loop-from in
-    rw c.full.ensures (cutting_full c.args.kind c.args.body.now c.args.place c.args.out.now c.args.at l.out l.from l.size l.invariant c.loop-from-test.true c.if-out-size.true)
+    let l = c.loop-out in
+    let a = c.args in
+    let m : c.min.result ≡ min (length l.rest.now) 4096 = grind (arith, common_steps) in
+    let k : length l.out - l.size < 4 + length (take c.min.result l.rest.now) = rw (← c.split_at.ensures.front) c.if-out-size.true in
+    rw c.full.ensures (cutting_full a.kind a.body.now a.place a.out.now a.at l.out l.rest.now l.size l.invariant c.min.result m k)
 
-pub put_record-size-requires : goal.put_record-size-requires
-put_record-size-requires c =
-    let l = c.loop-from in simp (length-take, length-drop) (omega (arith, l.invariant.0.within, l.invariant.0.same))
+pub returns-then-is_empty : goal.returns-then-is_empty
+returns-then-is_empty c =
+    let l = c.loop-out in
+    let a = c.args in
+    let m : c.min.result ≡ min (length l.rest.now) 4096 = grind (arith, common_steps) in
+    let k : 4 + length (take c.min.result l.rest.now) ≤ length l.out - l.size = rw (← c.split_at.ensures.front) c.if-out-size.false in
+    let w = rw (kind_written a.kind) at c.put_record-size.ensures in
+    let z : length (drop c.min.result l.rest.now) ≡ 0 = rw (← c.split_at.ensures.back) (eqb-true _ 0 (sym c.is_empty.ensures ∙ c.if-is_empty.true)) in
+    cutting_done a.kind a.body.now a.place a.out.now a.at l.out l.rest.now l.size l.invariant c.min.result m k _ _ (rw c.split_at.ensures.front at w) z
 
-pub loop-from-preserved : goal.loop-from-preserved
-loop-from-preserved c =
-    let l = c.loop-from in
-    cutting_on c.args.kind c.args.body.now c.args.place c.args.out.now c.args.at l.out l.from l.size l.invariant c.loop-from-test.true c.if-out-size.false _ _ c.put_record-size.ensures
-
-pub overflow_sub-left : goal.overflow_sub-left
-overflow_sub-left c =
-    c.loop-from.invariant.1
-
-pub overflow_sub-out-2 : goal.overflow_sub-out-2
-overflow_sub-out-2 c =
-    let l = c.loop-from in omega (arith, l.invariant.0.within, l.invariant.0.same)
-
-pub shape_of-out-then-out-size-2 : goal.shape_of-out-then-out-size-2
-shape_of-out-then-out-size-2 c =
-    c.loop-from.invariant.0.same
-
-pub returns-then-out-size-2 : goal.returns-then-out-size-2
-returns-then-out-size-2 c =
-    let l = c.loop-from in
-    rw c.full-then-out-size-2.ensures (cutting_last_full c.args.kind c.args.body.now c.args.place c.args.out.now c.args.at l.out l.from l.size l.invariant c.loop-from-test.false c.if-out-size-2.true)
-
-pub slice_bounds-put_record-count-2 : goal.slice_bounds-put_record-count-2
-slice_bounds-put_record-count-2 c =
-    c.loop-from.invariant.1
-
-pub put_record-size-requires-2 : goal.put_record-size-requires-2
-put_record-size-requires-2 c =
-    let l = c.loop-from in simp (length-take, length-drop) (omega (arith, l.invariant.0.within, l.invariant.0.same))
-
-pub shape_of-out : goal.shape_of-out
-shape_of-out c =
-    let l = c.loop-from in omega (arith, l.invariant.0.same)
-
-pub returns : goal.returns
-returns c =
-    let l = c.loop-from in
-    cutting_done c.args.kind c.args.body.now c.args.place c.args.out.now c.args.at l.out l.from l.size l.invariant c.loop-from-test.false c.if-out-size-2.false _ _ c.put_record-size-2.ensures
+pub loop-out-preserved : goal.loop-out-preserved
+loop-out-preserved c =
+    let l = c.loop-out in
+    let a = c.args in
+    let m : c.min.result ≡ min (length l.rest.now) 4096 = grind (arith, common_steps) in
+    let k : 4 + length (take c.min.result l.rest.now) ≤ length l.out - l.size = rw (← c.split_at.ensures.front) c.if-out-size.false in
+    let w = rw (kind_written a.kind) at c.put_record-size.ensures in
+    let z : length (drop c.min.result l.rest.now) ≡ 0 → ⊥ = rw (← c.split_at.ensures.back) (eqb-false _ 0 (sym c.is_empty.ensures ∙ c.if-is_empty.false)) in
+    rw c.split_at.ensures.back (cutting_on a.kind a.body.now a.place a.out.now a.at l.out l.rest.now l.size l.invariant c.min.result m k _ _ (rw c.split_at.ensures.front at w) z)

@@ -1,45 +1,43 @@
--- The session's size, a refusal, the end, or a body.
-use borrow.Enum.Refused.{opened}
-use mathlib.Core.Path.{sym, ◌∙◌}
-use native.Mathlib.Omega.{arith}
-use Rattle.records.proofs.Bodies.{rest_within}
-use Rattle.session.proofs.Along.{too_long, step_as}
-use Rattle.session.proofs.Going.{goes_step}
-use Rattle.session.proofs.Playing.{ran_by, ends}
+-- By what is next.
+use Rattle.std.proofs.Common.{◌≡◌}
+use Rattle.std.specs.Prelude.{Ok, Err}
+use Rattle.session.specs.Next.{next_of}
+use Rattle.session.specs.declared.next.Next.TheVariants as n
+use Rattle.session.proofs.NextSteps.{event_lies}
+use Rattle.session.proofs.Playing.{ran_none, eventless, enters_body}
 use Rattle.session.proofs.steps.step.Goals as goal
 
-pub stop-requires : goal.stop-requires
-stop-requires c =
-    omega (arith, c.requires.2)
-
-pub returns-then-session-gt-MOST_SESSION : goal.returns-then-session-gt-MOST_SESSION
-returns-then-session-gt-MOST_SESSION c =
+pub play-requires : goal.play-requires
+play-requires c =
     let a = c.args in
-    goes_step a.budget a.session.now a.c a.out.now c.requires.0 c.requires.1 c.requires.2 (ran_by (too_long a.session.now a.c c.if-session-gt-MOST_SESSION.true) c.stop.ensures)
+    let w = c.in-Ok-Event in
+    let q : next_of a.session.now a.c.at a.c.end ≡ Ok (n.Event w.received w.start w.end) = cc in
+    (record { size = (event_lies a.session.now a.c.at a.c.end q).size; live = c.requires.0; more = c.requires.1; room = c.requires.2 }, enters_body a.session.now a.c q)
 
-pub stop-requires-in-Refused : goal.stop-requires-in-Refused
-stop-requires-in-Refused c =
-    omega (arith, c.requires.2)
-
-pub returns-in-Refused : goal.returns-in-Refused
-returns-in-Refused c =
+pub returns-in-Ok-Empty : goal.returns-in-Ok-Empty
+returns-in-Ok-Empty c =
     let a = c.args in
-    goes_step a.budget a.session.now a.c a.out.now c.requires.0 c.requires.1 c.requires.2
-    (ran_by (step_as a.session.now a.c c.if-session-gt-MOST_SESSION.false (sym c.record_from-record.ensures ∙ c.in-Refused.is)) c.stop-in-Refused.ensures)
+    let w = c.in-Ok-Empty in
+    let q : next_of a.session.now a.c.at a.c.end ≡ Ok (n.Empty w.start w.end) = cc in
+    rw (c.pass.ensures, c.entered.ensures) (eventless a.budget a.session.now a.c a.out.now c.requires.0 c.requires.1 c.requires.2 q (ran_none _ a.out.now))
 
-pub last-requires : goal.last-requires
-last-requires c =
-    omega (arith, c.requires.2)
-
-pub returns-in_default : goal.returns-in_default
-returns-in_default c =
+pub returns-in-Ok-Samples : goal.returns-in-Ok-Samples
+returns-in-Ok-Samples c =
     let a = c.args in
-    goes_step a.budget a.session.now a.c a.out.now c.requires.0 c.requires.1 c.requires.2
-    (ran_by (step_as a.session.now a.c c.if-session-gt-MOST_SESSION.false (sym c.record_from-record.ensures) ∙ ends a.session.now a.c c.record_from-record.result (opened c.in_default.in_default-own.keys2) (opened c.in_default-record.in_default-record-own.keys2)) c.last.ensures)
+    let w = c.in-Ok-Samples in
+    let q : next_of a.session.now a.c.at a.c.end ≡ Ok (n.Samples w.start w.end) = cc in
+    rw (c.pass-in-Ok-Samples.ensures, c.replaced.ensures) (eventless a.budget a.session.now a.c a.out.now c.requires.0 c.requires.1 c.requires.2 q (ran_none _ a.out.now))
 
-pub take_body-requires : goal.take_body-requires
-take_body-requires c =
+pub returns-in-Ok-End : goal.returns-in-Ok-End
+returns-in-Ok-End c =
     let a = c.args in
-    let q = sym c.record_from-record.ensures ∙ c.in-Body.is in
-    let w = rest_within a.session.now a.c.at a.c.end q in
-    (record { size = c.if-session-gt-MOST_SESSION.false; live = c.requires.0; more = c.requires.1; room = c.requires.2 }, w.0, w.1, step_as a.session.now a.c c.if-session-gt-MOST_SESSION.false q)
+    let w = c.in-Ok-End in
+    let q : next_of a.session.now a.c.at a.c.end ≡ Ok n.End = cc in
+    eventless a.budget a.session.now a.c a.out.now c.requires.0 c.requires.1 c.requires.2 q c.last.ensures
+
+pub returns-in-Err : goal.returns-in-Err
+returns-in-Err c =
+    let a = c.args in
+    let w = c.in-Err in
+    let q : next_of a.session.now a.c.at a.c.end ≡ Err w.stopped = cc in
+    eventless a.budget a.session.now a.c a.out.now c.requires.0 c.requires.1 c.requires.2 q c.stop.ensures

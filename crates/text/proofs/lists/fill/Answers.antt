@@ -1,38 +1,18 @@
--- The goals that the search leaves.
-use borrow.Author.Rules.{rules}
-use mathlib.Core.Path.{◌≡◌, refl, sym, ap, ◌∙◌}
-use mathlib.Core.List.{List}
-use Prim.Native.Nat.{ℕ, suc, ◌+◌, ◌-◌, ◌<◌}
-use native.Mathlib.Nat.{add-zero, sub-zero}
-use native.Mathlib.Omega.{arith}
-use lib.ListN.{set, replicate, length-set, length-replicate}
-use Rattle.wire.specs.Buffer.{overwrite, Written}
-use Rattle.wire.proofs.Buffers.{overwrite_none}
+-- A part of the buffer is filled.
+use Rattle.std.proofs.Common.{rules, arith, ◌≡◌, ℕ, ◌+◌, ◌-◌, ◌≤◌, length, List, replicate, take, drop, ap, append_assoc, ◌∙◌}
+use borrow.Rule.Slice.PartMut.{put_mid}
+use lib.ListN.{length-replicate, length-take, length-drop}
+use lib.Seq.{drop-drop}
+use Rattle.wire.specs.Buffer.{Written}
+use Rattle.wire.proofs.Buffers.{overwrite_right}
 use Rattle.text.proofs.lists.fill.Goals as goal
 
-fill_turn : (l : List ℕ) (at b k i : ℕ) → i < k → overwrite (set l (at + i) b) (at + (i + 1)) (replicate (k - (i + 1)) b) ≡ overwrite l (at + i) (replicate (k - i) b)
-unfolding overwrite
-fill_turn l at b k i h =
-    let e : at + (i + 1) ≡ suc (at + i) = omega arith in
-    let n : k - i ≡ suc (k - (i + 1)) = omega arith in
-    rw (e, n)
-
-fill_done : (l : List ℕ) (at b k : ℕ) (m : List ℕ) (i : ℕ) → i ≡ k → overwrite m (at + i) (replicate (k - i) b) ≡ overwrite l (at + 0) (replicate (k - 0) b) → Written l at (replicate k b) m (at + i)
-fill_done l at b k m i e q =
-    let z : 0 ≡ k - i = omega arith in
-    record {
-      bytes = sym (overwrite_none m (at + i)) ∙ ap (λ (n : ℕ). overwrite m (at + i) (replicate n b)) z ∙ q ∙ (λ j. overwrite l (add-zero at j) (replicate (sub-zero k j) b));
-      after = ap (λ (n : ℕ). at + n) (e ∙ sym (length-replicate k b));
-    }
-
-pub loop-i-init : goal.loop-i-init
-loop-i-init c =
-    (omega arith, refl, refl)
-
-pub loop-i-preserved : goal.loop-i-preserved
-loop-i-preserved c =
-    (omega arith, simp length-set (omega arith), fill_turn _ _ _ _ _ (search rules) ∙ c.loop-i.invariant.2)
+filled : (o z : List ℕ) (at b k : ℕ) → at + k ≤ length o → z ≡ replicate k b → Written o at (replicate k b) (put_mid at (at + k - at) o z) (at + k)
+filled o z at b k h e =
+    let n : at + k - at ≡ k = omega arith in
+    record { bytes = rw (e, n, (overwrite_right o at (replicate k b)).parts (omega (arith, length-replicate k b)), length-replicate k b) (simp (append_assoc, drop-drop)); after = rw (length-replicate k b) }
 
 pub returns : goal.returns
 returns c =
-    fill_done _ _ _ _ _ _ (omega arith) c.loop-i.invariant.2
+    let a = c.args in
+    filled a.body.now _ a.at a.byte a.count c.requires (c.fill.ensures.after (λ y e. e) ∙ ap (λ (n : ℕ). replicate n a.byte) (simp (length-take, length-drop) (omega arith)))

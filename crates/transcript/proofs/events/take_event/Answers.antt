@@ -1,7 +1,7 @@
 -- The event as it was measured is its call's answer: refused, or the two records written.
 use mathlib.Core.Path.{sym, ◌∙◌}
 use Rattle.registers.specs.Ranges.{Sized}
-use Rattle.transcript.proofs.Carried.{event_refused, actions_fit, says_size, replies_fit, event_accepted}
+use Rattle.transcript.proofs.Carried.{event_refused, actions_fit, says_size, replies_fit, event_taken}
 use Rattle.transcript.proofs.events.take_event.Goals as goal
 use Rattle.transcript.proofs.events.take_event.Goals.{Start}
 
@@ -19,7 +19,7 @@ sized c =
 
 pub returns-then-not-fits : goal.returns-then-not-fits
 returns-then-not-fits c =
-    event_refused c.args.s c.args.event c.args.samples.now c.args.out.now c.requires.0 (sized (goal.at.returns-then-not-fits c).Start) c.requires.1 c.measure-r.result c.measure-r.ensures (sym c.fits.ensures ∙ c.if-not-fits.true) c.short.ensures
+    event_refused c.args.s c.args.event c.args.samples.now c.args.out.now c.requires.0 (sized (goal.at.returns-then-not-fits c).Start) c.requires.1 c.measure-r.result c.measure-r.ensures (sym c.fits.ensures ∙ c.if-not-fits.true)
 
 pub put_actions-at-requires : goal.put_actions-at-requires
 put_actions-at-requires c =
@@ -31,4 +31,4 @@ put_replies-written-requires c =
 
 pub returns : goal.returns
 returns c =
-    event_accepted c.args.s c.args.event c.args.samples.now c.args.out.now c.requires.0 (sized (goal.at.returns c).Start) c.requires.1 c.measure-r.result c.measure-r.ensures c.put_actions-at.ensures c.put_replies-written.ensures (sym c.fits.ensures ∙ c.if-not-fits.false)
+    event_taken c.args.s c.args.event c.args.samples.now c.args.out.now c.requires.0 (sized (goal.at.returns c).Start) c.requires.1 c.measure-r.result c.measure-r.ensures c.put_actions-at.ensures c.put_replies-written.ensures (sym c.fits.ensures ∙ c.if-not-fits.false)

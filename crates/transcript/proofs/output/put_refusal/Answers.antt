@@ -3,4 +3,4 @@ use Rattle.transcript.proofs.output.put_refusal.Goals as goal
 
 pub returns : goal.returns
 returns c =
-    rw (← c.number-n.ensures) c.put_record.ensures
+    rw (← c.from-n.ensures) c.put_record.ensures

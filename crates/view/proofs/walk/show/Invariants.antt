@@ -4,8 +4,8 @@ use Rattle.session.specs.Runs.{left}
 use Rattle.transcript.specs.Transcript.{most_output}
 use Rattle.view.proofs.walk.show.Given as goal
 
-abbrev pub invariant-loop-w : goal.invariant-loop-w
-invariant-loop-w l = most_output ≡ length l.out
+abbrev pub invariant-loop-cursor : goal.invariant-loop-cursor
+invariant-loop-cursor l = most_output ≡ length l.out
 
-abbrev pub decreases-loop-w : goal.decreases-loop-w
-decreases-loop-w l = left l.session l.w.cursor
+abbrev pub decreases-loop-cursor : goal.decreases-loop-cursor
+decreases-loop-cursor l = left l.session l.cursor

@@ -1,5 +1,0 @@
--- The bytes left fall.
-use Rattle.vectors.proofs.skip.Given as goal
-
-abbrev pub decreases-loop-left : goal.decreases-loop-left
-decreases-loop-left g l = l.left
