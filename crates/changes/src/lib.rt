@@ -58,7 +58,8 @@ fn load_packet(mut s: State, at: u8, byte: u8) -> State
     end_wait(s)
 }
 
-// The state with a change made. The caller shows that the size register is in range.
+// The state with a change made. The caller shows that the size register is in range. It is longer than other functions because it is
+// the list itself, an arm a change.
 pub fn apply(mut s: State, change: Change) -> State
     requires { s.page.size < width }
     ensures { result ≡ changed s change }

@@ -41,7 +41,7 @@ pub fn in_word(b: u8) -> bool
     !is_blank(b) && b != b'\n' && b != b'#'
 }
 
-// The place past the bytes that pass a test, from a place on.
+// The place past the bytes that pass a test, from a place on. The caller shows that the test may be called.
 pub fn past<F: Fn(u8) -> bool>(text: &[u8], passes: F, at: usize) -> usize
     requires { F.IsAlwaysCallable passes }
     ensures { (p : ℕ → Bool) → ((b : ℕ) → (r : Bool) → b < 256 → F.post passes b r → r ≡ p b) → result ≡ past text.now p at }

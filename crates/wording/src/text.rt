@@ -35,7 +35,7 @@ fn begin(style: Style) {
 }
 
 impl Paper {
-    // What is written there stands out.
+    // What is written there stands out. The caller shows that it may be written.
     pub fn styled<F: FnOnce()>(self, style: Style, write: F)
         requires { F.pre write }
     {
