@@ -43,7 +43,7 @@ use Rattle.bridge.specs.Views.{interface_of, context_of}
 use Rattle.bridge.proofs.Flags.{same_interface, one_selected}
 use Rattle.bridge.proofs.Openings.{row, common_opening, i2c_opening, spi_opening, one_wire_opening, byte_opening, is_between}
 use Rattle.grammar.proofs.Scans.{going_on}
-use Rattle.bridge.proofs.Decisions.{Opens, Goes, returns_code, legal_row, selected_matches, configured_matches}
+use Rattle.bridge.proofs.Decisions.{Opens, Goes, legal_row, rejected_row, selected_matches, configured_matches}
 
 module _ (page : Page) (shared : Shared) (held : List ℕ) (b : ℕ) where
   abbrev s : State
@@ -60,9 +60,9 @@ module _ (page : Page) (shared : Shared) (held : List ℕ) (b : ℕ) where
 
   common_agrees : (c : CommonCommand) → Opens s b (common_opening b c) (command_decision s (Some (k.Common c)))
   common_agrees m.ResetDevice = common_row m.ResetDevice None Clear (refl, ap (λ (i : Option Interface). between (record { interface = i; configured = false; bits = 1 })) (same_interface (kept_flags page.flags) 0 (omega arith)))
-  common_agrees m.SelectI2c = common_row m.SelectI2c None (Select I2C) (refl, flags_view (kept_flags page.flags + 1) 1 (omega arith))
-  common_agrees m.SelectSpi = common_row m.SelectSpi None (Select SPI) (refl, flags_view (kept_flags page.flags + 2) 2 (omega arith))
-  common_agrees m.SelectOneWire = common_row m.SelectOneWire None (Select OneWire) (refl, flags_view (kept_flags page.flags + 4) 4 (omega arith))
+  common_agrees m.SelectI2c = common_row m.SelectI2c None (Select (Some I2C)) (refl, flags_view (kept_flags page.flags + 1) 1 (omega arith))
+  common_agrees m.SelectSpi = common_row m.SelectSpi None (Select (Some SPI)) (refl, flags_view (kept_flags page.flags + 2) 2 (omega arith))
+  common_agrees m.SelectOneWire = common_row m.SelectOneWire None (Select (Some OneWire)) (refl, flags_view (kept_flags page.flags + 4) 4 (omega arith))
   common_agrees m.ReadError = common_row m.ReadError None Keep (refl, refl)
   common_agrees m.SaveToEprom = common_row m.SaveToEprom None Keep (refl, refl)
   common_agrees m.ReadFromEprom = common_row m.ReadFromEprom None Keep (refl, refl)
@@ -130,7 +130,7 @@ module _ (page : Page) (shared : Shared) (held : List ℕ) (b : ℕ) where
 
     -- ANY COMMAND that is not after 1D, and what is none
     pub command_agrees : (c : Option Command) → is_between c ≡ true → Opens s b (byte_opening b c) (command_decision s c)
-    command_agrees option.None h = returns_code s 0x80
+    command_agrees option.None h = rejected_row s b option.None 0x80 refl
     command_agrees (Some (k.Common c)) h = common_agrees c
     command_agrees (Some (k.Extended c)) h = absurd (false≢true h)
     command_agrees (Some (k.I2c c)) h = i2c_agrees c

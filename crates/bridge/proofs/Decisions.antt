@@ -7,7 +7,7 @@ use lib.Dec.{eqb}
 use Rattle.codes.proofs.Lookup.{either}
 use Rattle.grammar.specs.Grammar.{Needs, Operands, legal, count}
 use Rattle.grammar.specs.WrongCode.{code_for}
-use Rattle.std.specs.Prelude.{Some, Result, Ok, Err, ⊤}
+use Rattle.std.specs.Prelude.{Option, Some, None, Result, Ok, Err, ⊤}
 use Rattle.grammar.specs.Scanner.{Opening, going, opened}
 use Rattle.grammar.specs.declared.Scanner.{Scanner}
 use Rattle.grammar.specs.declared.ContextChange.{ContextChange}
@@ -70,7 +70,7 @@ module _ (s : State) where
 
     -- LEGALITY AGREES with a row's needs, and so does what the command decides
     abbrev Matches : Command → Needs → Type 0
-    Matches c n = legality_of s.page.flags s.page.configured c ≡ cond (legal n (context_of s)) (Ok tt) (Err (code_for n (context_of s)))
+    Matches c n = legality_of s.page.flags s.page.configured (Some c) ≡ cond (legal n (context_of s)) (Ok tt) (Err (code_for n (context_of s)))
 
     pub legal_row : (c : Command) (n : Needs) → Matches c n → (o : Operands) (e : ContextChange) → Goes o e (clause_of s c) → Opens (row b n o e) (command_decision s (Some c))
     legal_row c n q o e h = subst (λ (l : Result ⊤ ℕ). Opens (row b n o e) (command_decided s c l)) (sym q) (go (legal n (context_of s)))
@@ -78,6 +78,15 @@ module _ (s : State) where
         go : (t : Bool) → DecisionAgrees s (cond t (Ok (going e (count o (context_of s)) b (context_of s))) (Err (code_for n (context_of s)))) (command_decided s c (cond t (Ok tt) (Err (code_for n (context_of s)))))
         go true = h
         go false = rejects_code c (code_for n (context_of s))
+
+    -- no byte is rejected but with the code that rejects it
+    pub rejected_row : (c : Option Command) (w : ℕ) → legality_of s.page.flags s.page.configured c ≡ Err w → DecisionAgrees s (Err w) (command_decision s c)
+    rejected_row (Some c) w q = subst (λ (l : Result ⊤ ℕ). DecisionAgrees s (Err w) (command_decided s c l)) (sym q) (rejects_code c w)
+    rejected_row None w q = subst Coded q (returns_code _)
+      where
+        Coded : Result ⊤ ℕ → Type 0
+        Coded (Ok u) = ⊤
+        Coded (Err code) = DecisionAgrees s (Err code) (command_decision s None)
 
 -- a flag and the interface that it selects
 pub selected_matches : {t u : Bool} → t ≡ u → ◌≡◌ {A = Result ⊤ ℕ} (cond (not t) (Err 0x84) (Ok tt)) (cond u (Ok tt) (Err 0x84))

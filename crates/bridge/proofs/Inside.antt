@@ -28,7 +28,7 @@ use Rattle.bridge.specs.Views.{context_of}
 use Rattle.bridge.proofs.View.{operand_change, view_of}
 use Rattle.bridge.proofs.Openings.{extended_opening, byte_opening, is_extended}
 use Rattle.grammar.proofs.Scans.{going_on}
-use Rattle.bridge.proofs.Decisions.{DecisionAgrees, Opens, returns_code}
+use Rattle.bridge.proofs.Decisions.{DecisionAgrees, Opens, rejected_row}
 
 module _ (s : State) (b : ℕ) where
   -- no port register is in the view
@@ -48,7 +48,7 @@ module _ (s : State) (b : ℕ) where
   extended_agrees x.ReadCycles = (refl, refl)
 
   pub after_agrees : (a : Option Command) → is_extended a ≡ true → Opens s b (byte_opening b a) (command_decision s a)
-  after_agrees None h = returns_code s 0x80
+  after_agrees None h = rejected_row s b None 0x80 refl
   after_agrees (Some (k.Common a)) h = absurd (false≢true h)
   after_agrees (Some (k.Extended a)) h = extended_agrees a
   after_agrees (Some (k.I2c a)) h = absurd (false≢true h)

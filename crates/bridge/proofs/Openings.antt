@@ -9,7 +9,7 @@ use Rattle.grammar.specs.declared.ContextChange.{ContextChange}
 use Rattle.grammar.specs.declared.ContextChange.TheVariants.{Keep, Clear, Select, Configure, Resize}
 use Rattle.grammar.proofs.Lookups.{values, byte_fact}
 use Rattle.codes.proofs.Lookup.{found_all}
-use Rattle.std.specs.Prelude.{Option}
+use Rattle.std.specs.Prelude.{Option, Some}
 use Rattle.std.specs.declared.option.Option.TheVariants as o
 use Rattle.commands.specs.Commands.{extended_table, command_table, command_of, extended_command_of}
 use Rattle.commands.specs.declared.Command.{Command}
@@ -32,9 +32,9 @@ row b n o e = Known (record { code = b; needs = n; operands = o; change = e })
 
 abbrev pub common_opening : ℕ → CommonCommand → Opening
 common_opening b m.ResetDevice = row b Common None Clear
-common_opening b m.SelectI2c = row b Common None (Select I2C)
-common_opening b m.SelectSpi = row b Common None (Select SPI)
-common_opening b m.SelectOneWire = row b Common None (Select OneWire)
+common_opening b m.SelectI2c = row b Common None (Select (Some I2C))
+common_opening b m.SelectSpi = row b Common None (Select (Some SPI))
+common_opening b m.SelectOneWire = row b Common None (Select (Some OneWire))
 common_opening b m.ReadError = row b Common None Keep
 common_opening b m.SaveToEprom = row b Common None Keep
 common_opening b m.ReadFromEprom = row b Common None Keep

@@ -124,7 +124,7 @@ module _ (s : State) (n : InRange s) where
   one_wire_fits t w.ReleaseDq = tt
   one_wire_fits t (w.PulsePb7 a b) = tt
 
-  clause_fits : Free s.wait → (c : Command) → LegalHere s.page.flags s.page.configured c → Fit (clause_of s c)
+  clause_fits : Free s.wait → (c : Command) → LegalHere s.page.flags s.page.configured (Some c) → Fit (clause_of s c)
   clause_fits f (k.Common c) l = common_fits f c
   clause_fits f (k.Extended c) l = extended_fits c
   clause_fits f (k.I2c c) l = i2c_fits l.selected c
@@ -133,10 +133,10 @@ module _ (s : State) (n : InRange s) where
 
   decided_fits : Free s.wait → (c : Option Command) → Fit (command_decision s c)
   decided_fits f None = tt
-  decided_fits f (Some c) = go (legality_of s.page.flags s.page.configured c) refl
+  decided_fits f (Some c) = go (legality_of s.page.flags s.page.configured (Some c)) refl
     where
-      go : (l : Result ⊤ ℕ) → legality_of s.page.flags s.page.configured c ≡ l → Fit (command_decided s c l)
-      go (Ok u) h = clause_fits f c (legal_here s.page.flags s.page.configured c h)
+      go : (l : Result ⊤ ℕ) → legality_of s.page.flags s.page.configured (Some c) ≡ l → Fit (command_decided s c l)
+      go (Ok u) h = clause_fits f c (legal_here s.page.flags s.page.configured (Some c) h)
       go (Err code) h = either Fit (eqb code 0x40 && reads_configuration c) _ _ tt tt
 
   operand_fits_lem : (a : Operand) (b : ℕ) → Fit (operand_clause s.page a b)

@@ -71,7 +71,7 @@ module _ (s : State) where
   decided_sorted : (x : Option Command) → clause_properly x ≡ true → Sorted (command_decision s x)
   unfolding clause_properly
   decided_sorted None p = coded unknown_command refl
-  decided_sorted (Some x) p = go (legality_of s.page.flags s.page.configured x)
+  decided_sorted (Some x) p = go (legality_of s.page.flags s.page.configured (Some x))
     where
       go : (l : Result ⊤ ℕ) → Sorted (command_decided s x l)
       go (Ok u) = is_proper p

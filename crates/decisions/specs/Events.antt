@@ -39,7 +39,7 @@ command_decided s c (Err code) = rejected_clause c code
 -- a byte's command, if it has one; "any other byte: 80"
 abbrev pub command_decision : State → Option Command → Decision
 command_decision s None = returns unknown_command
-command_decision s (Some c) = command_decided s c (legality_of s.page.flags s.page.configured c)
+command_decision s (Some c) = command_decided s c (legality_of s.page.flags s.page.configured (Some c))
 
 -- A BYTE, by what is waited for; "1D returns 00; the next byte is extended", and "after 1D a bad byte leaves the wait (H)"
 abbrev pub byte_decision : State → Wait → ℕ → Decision

@@ -32,10 +32,11 @@ fn command(s: State, c: Option<Command>) -> Decision
     requires { s.page.size < width }
     ensures { result ≡ command_decision s c }
 {
+    // asked before legality, which rejects it on every page, since three codes at one return cost each legal command instructions
     let Some(c) = c else {
         return returning(codes::UNKNOWN_COMMAND);
     };
-    match legality_of(s.page.flags, s.page.configured, c) {
+    match legality_of(s.page.flags, s.page.configured, Some(c)) {
         Ok(()) => clause_of(s, c),
         Err(code) => rejected(c, code),
     }

@@ -47,7 +47,7 @@ fn say_command(extended: bool, byte: u8, flags: u8) {
     } else {
         command_of(byte)
     };
-    if !matches!(c, Some(c) if is_selected(flags, c)) {
+    if !is_selected(flags, c) {
         say(b" without its interface");
     }
 }
