@@ -93,7 +93,7 @@ operands_byte = byte_context_fact (λ b c. operands_of (opening_of b) c) (λ b c
 
 abbrev change_by : ℕ → ContextChange
 change_by b =
-    cond (eqb b 0x00) Clear (cond (eqb b 0x01) (Select I2C) (cond (eqb b 0x02) (Select SPI) (cond (eqb b 0x03) (Select OneWire) (cond (eqb b 0x40) Configure (cond (eqb b 0x42) Resize Keep)))))
+    cond (eqb b 0x00) Clear (cond (eqb b 0x01) (Select (Some I2C)) (cond (eqb b 0x02) (Select (Some SPI)) (cond (eqb b 0x03) (Select (Some OneWire)) (cond (eqb b 0x40) Configure (cond (eqb b 0x42) Resize Keep)))))
 
 change_computed : values (λ (b : ℕ). change_of (opening_of b)) 256 0 ≡ values change_by 256 0
 unfolding opening_of commands

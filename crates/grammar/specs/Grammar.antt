@@ -43,9 +43,9 @@ rows_for codes n o e = map (λ (k : ℕ). record { code = k; needs = n; operands
 abbrev pub common_commands : List Command
 common_commands =
     rows_for (0x00 ∷ []) Common None Clear
-    ++ rows_for (0x01 ∷ []) Common None (Select I2C)
-    ++ rows_for (0x02 ∷ []) Common None (Select SPI)
-    ++ rows_for (0x03 ∷ []) Common None (Select OneWire)
+    ++ rows_for (0x01 ∷ []) Common None (Select (Some I2C))
+    ++ rows_for (0x02 ∷ []) Common None (Select (Some SPI))
+    ++ rows_for (0x03 ∷ []) Common None (Select (Some OneWire))
     ++ rows_for (0x04 ∷ 0x05 ∷ 0x06 ∷ 0x07 ∷ 0x08 ∷ 0x09 ∷ 0x0A ∷ []) Common None Keep
     ++ rows_for (0x0B ∷ 0x0D ∷ 0x0F ∷ 0x11 ∷ 0x13 ∷ 0x15 ∷ []) Common One Keep
     ++ rows_for (0x0C ∷ 0x0E ∷ 0x10 ∷ 0x12 ∷ 0x14 ∷ 0x16 ∷ []) Common None Keep
@@ -122,7 +122,7 @@ cleared_context = record { interface = option.None; configured = false; bits = 1
 abbrev pub context_after : ContextChange → ℕ → Context → Context
 context_after Keep b c = c
 context_after Clear b c = cleared_context
-context_after (Select i) b c = record { interface = Some i; configured = c.configured; bits = c.bits }
+context_after (Select i) b c = record { interface = i; configured = c.configured; bits = c.bits }
 context_after Configure b c = record { interface = c.interface; configured = true; bits = c.bits }
 context_after Resize b c = record { interface = c.interface; configured = c.configured; bits = size_of width b }
 

@@ -30,7 +30,7 @@ pub struct Context {
 pub enum ContextChange {
     Keep,
     Clear,
-    Select(Interface),
+    Select(Option<Interface>),
     Configure,
     Resize,
 }

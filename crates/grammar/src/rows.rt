@@ -100,9 +100,9 @@ pub(crate) fn change_of(b: u8, extended: bool) -> ContextChange
     }
     match b {
         0x00 => ContextChange::Clear,
-        0x01 => ContextChange::Select(Interface::I2C),
-        0x02 => ContextChange::Select(Interface::SPI),
-        0x03 => ContextChange::Select(Interface::OneWire),
+        0x01 => ContextChange::Select(Some(Interface::I2C)),
+        0x02 => ContextChange::Select(Some(Interface::SPI)),
+        0x03 => ContextChange::Select(Some(Interface::OneWire)),
         0x40 => ContextChange::Configure,
         0x42 => ContextChange::Resize,
         _ => ContextChange::Keep,

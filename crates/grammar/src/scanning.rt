@@ -13,10 +13,7 @@ pub(crate) fn context_after(e: ContextChange, b: u8, c: Context) -> Context
     match e {
         ContextChange::Keep => c,
         ContextChange::Clear => crate::cleared_context(),
-        ContextChange::Select(i) => Context {
-            interface: Some(i),
-            ..c
-        },
+        ContextChange::Select(interface) => Context { interface, ..c },
         ContextChange::Configure => Context {
             configured: true,
             ..c
