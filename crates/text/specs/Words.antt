@@ -1,6 +1,8 @@
 -- A script's words: the bytes between blanks, up to the line's end or a comment; and what a word can say.
 use Rattle.std.specs.Prelude.{ℕ, suc, ◌+◌, ◌-◌, ◌*◌, Bool, true, false, not, cond, ◌&&◌, ◌||◌, List, [], ◌∷◌, Option, Some, None, eqb, leb, ltb, length, drop}
 use Rattle.records.specs.Records.{part}
+use Rattle.text.specs.declared.words.Class.{Class}
+use Rattle.text.specs.declared.words.Class.TheVariants as k
 pub use Rattle.text.specs.declared.words.Word.{Word}
 
 -- a blank, a tabulator or a carriage return
@@ -17,6 +19,12 @@ in_word b = not (is_blank b || ends_text b)
 
 abbrev pub in_line : ℕ → Bool
 in_line b = not (eqb b 0x0A)
+
+-- the bytes between words, those of a word, and those of a line
+abbrev pub is_in : Class → ℕ → Bool
+is_in k.Blank b = is_blank b
+is_in k.Word b = in_word b
+is_in k.Line b = in_line b
 
 -- how many bytes at the front pass a test
 unfoldable pub span : (ℕ → Bool) → List ℕ → ℕ

@@ -1,6 +1,14 @@
 // The words of a script.
 ghost use Rattle.std.specs.Prelude.{◌≡◌, ◌==◌, ℕ, Bool, ◌<◌};
-ghost use Rattle.text.specs.Words.{is_blank, in_word, in_line, past, word_at, text_of};
+ghost use Rattle.text.specs.Words.{is_blank, in_word, in_line, is_in, past, word_at, text_of};
+
+// The bytes between words, those of a word, and those of a line.
+#[derive(Clone, Copy)]
+pub enum Class {
+    Blank,
+    Word,
+    Line,
+}
 
 // A word, from its start to its end; where both are one there is none. (No Option: where no word is, its place is where something is
 // missing.)
@@ -41,8 +49,8 @@ pub fn in_word(b: u8) -> bool
     !is_blank(b) && b != b'\n' && b != b'#'
 }
 
-// The place past the bytes that pass a test, from a place on. The caller shows that the test may be called.
-pub fn past<F: Fn(u8) -> bool>(text: &[u8], passes: F, at: usize) -> usize
+// The end of the run of bytes that pass a test, from a place on. The caller shows that the test may be called.
+pub fn run_end<F: Fn(u8) -> bool>(text: &[u8], passes: F, at: usize) -> usize
     requires { F.IsAlwaysCallable passes }
     ensures { (p : ℕ → Bool) → ((b : ℕ) → (r : Bool) → b < 256 → F.post passes b r → r ≡ p b) → result ≡ past text.now p at }
 {
@@ -54,18 +62,29 @@ pub fn past<F: Fn(u8) -> bool>(text: &[u8], passes: F, at: usize) -> usize
     text.len().max(at)
 }
 
+// The place past the bytes of a class, from a place on. A class and no test is its argument, so it asks nothing of its callers.
+pub fn past(text: &[u8], class: Class, at: usize) -> usize
+    ensures { result ≡ past text.now (is_in class) at }
+{
+    match class {
+        Class::Blank => run_end(text, is_blank, at),
+        Class::Word => run_end(text, in_word, at),
+        Class::Line => run_end(text, |b| b != b'\n', at),
+    }
+}
+
 // The place of the line's end, from a place on.
 pub fn line_end(text: &[u8], at: usize) -> usize
     ensures { result ≡ past text.now in_line at }
 {
-    past(text, |b| b != b'\n', at)
+    past(text, Class::Line, at)
 }
 
 // The next word from a place on.
 pub fn word_at(text: &[u8], at: usize) -> Word
     ensures { result ≡ word_at text.now at }
 {
-    let start = past(text, is_blank, at);
-    let end = past(text, in_word, start);
+    let start = past(text, Class::Blank, at);
+    let end = past(text, Class::Word, start);
     Word { start, end }
 }

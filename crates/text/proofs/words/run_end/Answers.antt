@@ -1,7 +1,7 @@
 -- A byte that does not pass, one more that does, or the text's end.
 use Rattle.std.proofs.Common.{rules, arith, ◌≡◌, sym, ◌∙◌, length, max}
 use Rattle.text.proofs.Spans.{past_more, past_stop, past_end}
-use Rattle.text.proofs.words.past.Goals as goal
+use Rattle.text.proofs.words.run_end.Goals as goal
 
 pub returns-then-not-passes : goal.returns-then-not-passes
 returns-then-not-passes g c =
