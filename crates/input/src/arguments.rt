@@ -1,8 +1,9 @@
 // The arguments of a program: options, which start with `-`, and at most one name of a file. What a word is by its bytes is proved. Which
 // words the arguments are, the contracts of the system's calls don't say, so a function that asks for them promises nothing of their bytes.
 ghost use Rattle.std.specs.List.{slice_split};
-ghost use Rattle.std.specs.Prelude.{◌==◌, ◌≡◌, ◌<◌, ◌≤◌, ◌↔◌, length, IsTrue, not};
+ghost use Rattle.std.specs.Prelude.{◌==◌, ◌≡◌, ◌<◌, ◌↔◌, length, IsTrue, not};
 ghost use Rattle.input.specs.Arguments.{Among, split_at_spaces, is_option, IsUnknown};
+ghost use Rattle.input.specs.Front.{IsFront};
 
 use std::env::{Env, FillError};
 use streams::{complain, say};
@@ -42,7 +43,7 @@ fn is_unknown(word: &[u8], options: &[u8]) -> bool
 
 // Puts an argument at the start of the buffer and answers it. One that is missing or too long counts as empty, which is a name.
 pub(crate) fn argument<'a>(rt: &impl Env, place: usize, word: &'a mut [u8]) -> &'a [u8]
-    ensures { length result.now ≤ length word.old }
+    ensures { IsFront word.entry result }
 {
     let n = rt.arg(place, word).unwrap_or(0);
     &word[..n]
@@ -75,9 +76,13 @@ pub(crate) fn first<F: Fn(&[u8]) -> bool>(rt: &impl Env, from: usize, meets: F) 
     None
 }
 
-// Whether the program was started with an option. A contract could only speak of the arguments, so there is none.
+// Whether the program was started with an option. A contract could only speak of the arguments, so there is none; which words are the
+// option, the test's own clause says.
 pub fn option(rt: &impl Env, name: &[u8]) -> bool {
-    first(rt, 1, |word| has_word(name, word)).is_some()
+    let known = |word: &[u8]| -> bool
+        ensures { IsTrue result ↔ Among word.now (split_at_spaces name.entry.now) }
+    { has_word(name, word) };
+    first(rt, 1, known).is_some()
 }
 
 // Says on standard error that an argument is not understood, and how the program is used.
@@ -88,9 +93,13 @@ fn refuse(rt: &impl Env, place: usize, usage: &[u8]) {
     complain(usage);
 }
 
-// The place of the first argument that is neither one of the options nor the first name.
+// The place of the first argument that is neither one of the options nor the first name. Which words are unknown, the test's own clause
+// says.
 fn first_unknown(rt: &impl Env, options: &[u8]) -> Option<usize> {
-    first(rt, 1, |word| is_unknown(word, options)).or_else(|| {
+    let unknown = |word: &[u8]| -> bool
+        ensures { IsTrue result ↔ IsUnknown options.entry.now word.now }
+    { is_unknown(word, options) };
+    first(rt, 1, unknown).or_else(|| {
         let name = first(rt, 1, is_name)?;
         first(rt, name.saturating_add(1), is_name)
     })

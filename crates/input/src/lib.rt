@@ -3,7 +3,8 @@
 
 mod arguments;
 
-ghost use Rattle.std.specs.Prelude.{◌<◌, ◌≤◌, length, IfOk, IfSome};
+ghost use Rattle.std.specs.Prelude.{◌<◌, length, IfOk, IfSome};
+ghost use Rattle.input.specs.Front.{IsFront};
 
 use arguments::{argument, first, is_name};
 pub use arguments::{goes_on, option};
@@ -21,20 +22,32 @@ pub fn fail(rt: &impl Eprint, what: &[u8], why: Error) {
     let _ = eprintln!(rt; ": {why}");
 }
 
-// Reads until the input ends or the buffer is full, and answers what was read, the front of the buffer. (No `for`: each read says how far
-// it got.)
-pub fn read_full<'a, R: Read>(from: &mut R, buf: &'a mut [u8]) -> Result<&'a [u8], Error>
-    ensures { IfOk result (λ front. length front.now ≤ length buf.old) }
+// Reads until the input ends, the buffer is full or a read fails, and answers what was read, the front of the buffer, beside that failure.
+// (No `for`: each read says how far it got.)
+pub fn read_front<'a, R: Read>(from: &mut R, buf: &'a mut [u8]) -> (&'a [u8], Result<(), Error>)
+    ensures { IsFront buf.entry result.0 }
 {
     let mut n: usize = 0;
+    let mut end = Ok(());
     while n < buf.len() {
-        let more = from.read(&mut buf[n..])?;
+        let more = from.read(&mut buf[n..]).unwrap_or_else(|why| {
+            end = Err(why);
+            0
+        });
         if more == 0 {
             break;
         }
         n += more;
     }
-    Ok(&buf[..n])
+    (&buf[..n], end)
+}
+
+// Reads until the input ends or the buffer is full, and answers what was read, the front of the buffer; nothing if a read fails.
+pub fn read_full<'a, R: Read>(from: &mut R, buf: &'a mut [u8]) -> Result<&'a [u8], Error>
+    ensures { IfOk result (IsFront buf.entry) }
+{
+    let (front, end) = read_front(from, buf);
+    end.map(|()| front)
 }
 
 // A path is UTF-8 text.
@@ -55,7 +68,7 @@ pub fn open<R: Env + Files + Eprint>(rt: &R) -> Option<R::File> {
 
 // Reads the file of a name to the front of a buffer.
 fn read_file<'a, R: Files>(rt: &R, name: &[u8], buf: &'a mut [u8]) -> Result<&'a [u8], Error>
-    ensures { IfOk result (λ front. length front.now ≤ length buf.old) }
+    ensures { IfOk result (IsFront buf.entry) }
 {
     read_full(&mut open_path(rt, name)?, buf)
 }
@@ -63,7 +76,7 @@ fn read_file<'a, R: Files>(rt: &R, name: &[u8], buf: &'a mut [u8]) -> Result<&'a
 // Reads the program's input to the front of a buffer, and answers that front: the whole input, or what a full buffer holds of it. If it
 // can't be opened or read, a line on standard error says why.
 pub fn read<'a>(rt: &impl Runtime, buf: &'a mut [u8]) -> Option<&'a [u8]>
-    ensures { IfSome result (λ input. length input.now ≤ length buf.old) }
+    ensures { IfSome result (IsFront buf.entry) }
 {
     let Some(place) = first(rt, 1, is_name) else {
         return read_full(&mut rt.reader(), buf)
@@ -84,7 +97,7 @@ pub fn read<'a>(rt: &impl Runtime, buf: &'a mut [u8]) -> Option<&'a [u8]>
 
 // Reads the program's input, which is to be shorter than the buffer. If it is not, the line given is written to standard error.
 pub fn read_shorter<'a>(rt: &impl Runtime, buf: &'a mut [u8], too_long: &[u8]) -> Option<&'a [u8]>
-    ensures { IfSome result (λ input. length input.now < length buf.old) }
+    ensures { IfSome result (λ input. (length input.now < length buf.old) × IsFront buf.entry input) }
 {
     let room = buf.len();
     let input = read(rt, buf)?;

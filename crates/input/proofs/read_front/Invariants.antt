@@ -1,6 +1,6 @@
 -- The bytes so far are at the start of the buffer, which keeps its length.
 use Rattle.std.proofs.Common.{◌≡◌, ◌-◌, ◌≤◌, length}
-use Rattle.input.proofs.read_full.Given as goal
+use Rattle.input.proofs.read_front.Given as goal
 
 abbrev pub invariant-loop-n : goal.invariant-loop-n
 invariant-loop-n g l = (l.n ≤ length l.buf) × (length l.buf ≡ length l.initial.buf)
