@@ -3,7 +3,7 @@
 -- unknown").
 use Rattle.std.specs.Prelude.{ℕ, Bool, true, false, ◌||◌, List, [], ◌∷◌}
 use Prim.Native.String.{String}
-use Rattle.padding.specs.Padding.{bytes}
+use Rattle.padding.specs.Padding.{bytes, padded}
 use Rattle.codes.specs.Tables.{Entry, ◌is◌, lookup}
 
 abbrev pub no_error : ℕ
@@ -73,8 +73,16 @@ any_rejecting [] = false
 any_rejecting (k ∷ ks) = rejecting k || any_rejecting ks
 
 -- a code's words
+abbrev pub text_of : ℕ → List ℕ
+text_of k = bytes (meaning_of k).words
+
+-- the widest words
+abbrev pub words_width : ℕ
+words_width = 20
+
+-- a code's words, padded with blanks to the widest
 abbrev pub words_in : Meaning → List ℕ
-words_in m = bytes m.words
+words_in m = padded words_width (bytes m.words)
 
 abbrev pub words_of : ℕ → List ℕ
 words_of k = words_in (meaning_of k)

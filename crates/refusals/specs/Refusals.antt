@@ -1,7 +1,7 @@
 -- The refusals in 01's order (01, "Refusal numbers"): each with its number, and in the table's words.
 use Rattle.std.specs.Prelude.{ℕ, ◌≡◌, List, [], ◌∷◌, map, get_or}
 use Prim.Native.String.{String}
-use Rattle.padding.specs.Padding.{bytes}
+use Rattle.padding.specs.Padding.{bytes, blanks, padded}
 pub use Rattle.refusals.specs.declared.Refusal.{Refusal}
 pub use Rattle.refusals.specs.declared.Refusal.TheVariants.{Ranges, Samples, Actions, Replies, Header, Length, Passes, Kind, FaultBody, Size, Factory, Waits}
 
@@ -43,9 +43,17 @@ table_words =
     "judge's start waits for something or drops a byte" ∷
     []
 
-abbrev pub lines : List (List ℕ)
-lines = [] ∷ map (λ (w : String). bytes w) table_words
-
 -- a number's words, none for one that is no refusal's
+unfoldable pub text_of : ℕ → List ℕ
+text_of n = get_or ([] ∷ map (λ (w : String). bytes w) table_words) n []
+
+-- the widest words
+abbrev pub words_width : ℕ
+words_width = 49
+
+abbrev pub lines : List (List ℕ)
+lines = blanks words_width ∷ map (λ (w : String). padded words_width (bytes w)) table_words
+
+-- a number's words, padded with blanks to the widest; all blanks for one that is no refusal's
 unfoldable pub words_of : ℕ → List ℕ
-words_of n = get_or lines n []
+words_of n = get_or lines n (blanks words_width)

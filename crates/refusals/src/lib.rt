@@ -1,8 +1,9 @@
 // The refusals of 01 in its order, each with its number and in words.
 #![tactic(auto)]
 
-ghost use Rattle.std.specs.Prelude.{◌≡◌};
-ghost use Rattle.refusals.specs.Refusals.{number_of, words_of};
+ghost use Rattle.padding.specs.Padding.{padded};
+ghost use Rattle.std.specs.Prelude.{◌≡◌, ◌≤◌, length};
+ghost use Rattle.refusals.specs.Refusals.{number_of, text_of, words_of, words_width};
 
 // Why a call is refused, or a session can't be replayed further; `number_of` in the definitions gives each its number.
 #[derive(Clone, Copy)]
@@ -30,9 +31,14 @@ impl From<Refusal> for u8 {
     }
 }
 
+// The width of the widest words.
+pub const WORDS_WIDTH: usize = 49;
+
 // The refusal of a number in words; no text for a number that is no refusal's.
 pub fn words(number: usize) -> &'static [u8]
-    ensures { result.now ≡ words_of number }
+    ensures text { result.now ≡ text_of number }
+    ensures in_table { padded words_width result.now ≡ words_of number }
+    ensures within { length result.now ≤ words_width }
 {
     match number {
         1 => b"the state breaks its ranges",
