@@ -1,7 +1,7 @@
 // Switch-on: a bridge made from stored settings.
 #![tactic(auto)]
 
-ghost use Rattle.std.specs.Prelude.{◌≡◌, [], true, false, IfOk, IfErr};
+ghost use Rattle.std.specs.Prelude.{◌≡◌, [], true, false, length, IfOk, IfErr, MatchResult};
 ghost use Rattle.packet.specs.Register.{zeros};
 ghost use Rattle.switch_on.specs.Start.{starting};
 ghost use Rattle.switch_on.specs.SwitchOn.{state_of, zero_state, used_of, is_on, reason_for, switched, refusal, switch_of, settings_of};
@@ -96,6 +96,7 @@ fn state(page: Page, eprom: [u8; registers::IMAGE], device: Device) -> State
 
 // The image that is used, or why there is none: the factory image is not good, or else the actions do not fit. The room is the
 // size of the buffer for the actions, with its mark.
+#[tactic(auto, unfolding(crate::specs::SwitchOn::settings_of))]
 fn chosen<'a>(
     stored: &'a [u8],
     factory: &'a [u8],
@@ -104,6 +105,7 @@ fn chosen<'a>(
 ) -> Result<&'a [u8], Refusal>
     ensures on { IfOk result (λ i. (is_on stored.now factory.now room mark ≡ true) × (i.now ≡ used_of stored.now factory.now)) }
     ensures off { IfErr result (λ why. (is_on stored.now factory.now room mark ≡ false) × (why ≡ reason_for factory.now)) }
+    ensures settings { MatchResult result (λ i. i.now ≡ settings_of stored.now factory.now room mark) (λ _. settings_of stored.now factory.now room mark ≡ []) }
 {
     if !settings::is_good(factory) {
         return Err(Refusal::Factory);
@@ -117,9 +119,10 @@ fn chosen<'a>(
 }
 
 // The part of one of the two images that is used; where switch-on is refused, the empty front part of the factory image.
-#[tactic(auto, unfolding(crate::specs::SwitchOn::settings_of))]
+#[tactic(auto, using(crate::proofs::NoSettings::no_settings), unfolding(crate::specs::SwitchOn::settings_of))]
 pub fn settings<'a>(stored: &'a [u8], factory: &'a [u8], room: usize, mark: usize) -> &'a [u8]
-    ensures { result.now ≡ settings_of stored.now factory.now room mark }
+    ensures used { result.now ≡ settings_of stored.now factory.now room mark }
+    ensures none { length result.now ≡ 0 → is_on stored.now factory.now room mark ≡ false }
 {
     chosen(stored, factory, room, mark).unwrap_or(&factory[..0])
 }
@@ -149,13 +152,18 @@ pub fn switch_on<'a>(
     }
 }
 
-// Switched on from a factory image, with no stored one.
+// Switched on from a factory image, with no stored one. Not by `switch_on`: it would write actions that nobody reads, at every start.
 fn from_factory(factory: &[u8], device: Device) -> Bridge
     ensures { result ≡ (switch_of [] factory.now device (zeros 28) 0).answer.bridge }
 {
-    let mut actions = [0u8; actions::MOST];
-    let r = switch_on(&factory[..0], factory, device, &mut actions, 0);
-    r.bridge
+    let stored = &factory[..0];
+    let used = match chosen(stored, factory, actions::MOST, 0) {
+        Err(why) => return refused(why).bridge,
+        Ok(used) => used,
+    };
+    let eprom = images::eprom(stored, factory);
+    let s = state(settings::page(used), eprom, device);
+    Bridge { state: s }
 }
 
 // The bridge that every session starts with.
