@@ -14,20 +14,22 @@ fn write_comment(pull_up: bool) {
     say(b"$end\n");
 }
 
-// The variables, each by its identifier and its name: the lines, and the direction and latch registers of the ports.
-const LINES: [(u8, &[u8]); 9] = [
-    (b'A', b"SCL"),
-    (b'B', b"SDA"),
-    (b'C', b"CS"),
-    (b'D', b"SCK"),
-    (b'E', b"MOSI"),
-    (b'F', b"MISO"),
-    (b'G', b"SS"),
-    (b'H', b"DQ"),
-    (b'I', b"PB7"),
+// The variables of the lines, three in a write.
+const LINES: [&[u8]; 3] = [
+    b"$var wire 1 A SCL $end\n$var wire 1 B SDA $end\n$var wire 1 C CS $end\n",
+    b"$var wire 1 D SCK $end\n$var wire 1 E MOSI $end\n$var wire 1 F MISO $end\n",
+    b"$var wire 1 G SS $end\n$var wire 1 H DQ $end\n$var wire 1 I PB7 $end\n",
 ];
 
-const REGISTERS: [(u8, &[u8]); 6] = [
+// Those of the direction and latch registers, two in a write.
+const REGISTERS: [&[u8]; 3] = [
+    b"$var wire 8 J DDRB $end\n$var wire 8 K PORTB $end\n",
+    b"$var wire 8 L DDRC $end\n$var wire 8 M PORTC $end\n",
+    b"$var wire 8 N DDRD $end\n$var wire 8 O PORTD $end\n",
+];
+
+// The registers by identifier and name, for their bits.
+const BITWISE: [(u8, &[u8]); 6] = [
     (b'J', b"DDRB"),
     (b'K', b"PORTB"),
     (b'L', b"DDRC"),
@@ -36,22 +38,14 @@ const REGISTERS: [(u8, &[u8]); 6] = [
     (b'O', b"PORTD"),
 ];
 
-// A variable of so many bits, or a register's bit with its number.
-fn write_variable(bits: &[u8], identifier: u8, name: &[u8], number: &[u8]) {
-    say(b"$var wire ");
-    say(bits);
-    say(&[b' ', identifier]);
-    say(number);
-    say(b" ");
-    say(name);
-    say(number);
-    say(b" $end\n");
-}
-
 // A register's bits, each with the register's identifier and its number.
 fn write_bits(identifier: u8, name: &[u8]) {
     for number in b'0'..b'8' {
-        write_variable(b"1", identifier, name, &[number]);
+        say(b"$var wire 1 ");
+        say(&[identifier, number, b' ']);
+        say(name);
+        say(&[number]);
+        say(b" $end\n");
     }
 }
 
@@ -60,14 +54,16 @@ fn write_bits(identifier: u8, name: &[u8]) {
 pub fn write_header(pull_up: bool) {
     write_comment(pull_up);
     say(b"$scope module bridge $end\n");
-    for (identifier, name) in LINES {
-        write_variable(b"1", identifier, name, b"");
+    for variables in LINES {
+        say(variables);
     }
-    for (identifier, name) in REGISTERS {
-        if pull_up {
+    if pull_up {
+        for (identifier, name) in BITWISE {
             write_bits(identifier, name);
-        } else {
-            write_variable(b"8", identifier, name, b"");
+        }
+    } else {
+        for variables in REGISTERS {
+            say(variables);
         }
     }
     say(b"$upscope $end\n$enddefinitions $end\n#0\n$dumpvars\n");

@@ -38,6 +38,7 @@ impl Paper {
     // What is written there stands out. The caller shows that it may be written.
     pub fn styled<F: FnOnce()>(self, style: Style, write: F)
         requires { F.pre write }
+        ensures { F.post write result }
     {
         match self {
             Paper::Plain => write(),
