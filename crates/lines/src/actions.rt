@@ -69,7 +69,7 @@ pub(crate) fn latch(port: u8, value: u8) -> Action
 }
 
 // The verb for a bit, where the one for 1 is release on an open line and high on a driven one.
-fn verb_for(one: u8, bit: u8) -> u8
+pub fn verb_for(one: u8, bit: u8) -> u8
     ensures { result ≡ verb_for one bit }
 {
     if bit == 0 { wire::VERB_DRIVE_LOW } else { one }

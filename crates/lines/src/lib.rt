@@ -16,6 +16,7 @@ pub mod pulses;
 pub mod readings;
 pub mod singles;
 
+pub use actions::verb_for;
 use wire::Action;
 
 // What is known of a waveform before anything is written: the byte that its samples give, how many samples it uses, and how many
