@@ -16,8 +16,9 @@ const BYTE: u8 = 1;
 
 const FAULT: u8 = 2;
 
-// The bridge whose state these bytes are, if they are a state's.
+// The bridge whose state these bytes are, if they are a state's. (Inlined, as `decoded` is.)
 #[tactic(auto, using(state_bytes::proofs::Back::state_facts))]
+#[inline(always)]
 pub(crate) fn bridge_in(state: &[u8]) -> Result<Bridge, Refusal>
     ensures gives { result ≡ bridge_asked state.now }
     ensures is_state { OnOk result (is_state state.now ≡ true) }
@@ -77,7 +78,8 @@ pub(crate) fn device(cycles: u8, version: u8, serial: u32) -> Device
     }
 }
 
-// A replay's cursor; it is done with any mark but 0.
+// A replay's cursor; it is done with any mark but 0. (Inlined, as `decoded` is.)
+#[inline(always)]
 pub(crate) fn cursor_of(
     state: &[u8],
     at: usize,

@@ -135,8 +135,10 @@ pub fn is_state(bytes: &[u8]) -> bool
     (configured <= 1) & (drop <= 1) & (code <= 17) & ((15 <= code) | (left == 0))
 }
 
-// The state of bytes, where they are a state's.
+// The state of bytes, where they are a state's. (Inlined, since as a call it hands back a state or none through memory, and a
+// refused call then took half as many instructions again.)
 #[tactic(auto, using(crate::proofs::Back::state_facts))]
+#[inline(always)]
 pub fn decoded(bytes: &[u8]) -> Option<State>
     ensures { result ≡ decoded bytes.now }
 {
